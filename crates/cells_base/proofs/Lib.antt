@@ -1,0 +1,3 @@
+pub mod Scan
+pub mod Maps
+pub mod Place

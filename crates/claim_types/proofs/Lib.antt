@@ -1,0 +1,4 @@
+mod Parts
+mod LeaseBits
+pub mod Equal
+pub mod Ordered

@@ -1,0 +1,5 @@
+pub mod Bounds
+pub mod Order
+pub mod Keys
+pub mod Leases
+pub mod Operations

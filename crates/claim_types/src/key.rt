@@ -1,0 +1,85 @@
+ghost use Rattle.std.specs.Prelude.{◌≡◌};
+ghost use Rattle.claim_types.specs.declared.key.KeyFault.TheVariants.{Memory};
+ghost use Rattle.claim_types.specs.Keys.{GivesKey, key_of};
+
+use crate::grammar::{bad_byte, bad_part, is_reserved, lowered};
+use crate::{Copied, KEY_BYTES, NoMemory, Text};
+use std::alloc::Global;
+
+/// The kinds of claims. A bucket's number, from 1, is its place here.
+#[derive(Clone, Copy, Debug, PartialEq, Eq, PartialOrd, Ord)]
+pub enum Bucket {
+    OrganizationPath,
+    Route,
+    Address,
+    SshKey,
+    PagesDomain,
+}
+
+/// What a claim is about. Keys are ordered by their bucket's number and then by their value's
+/// bytes.
+#[derive(Debug, Drop, PartialEq, Eq, PartialOrd, Ord)]
+pub struct ClaimKey {
+    pub bucket: Bucket,
+    pub value: Text,
+}
+
+/// Why a text is no key of a bucket, in the order in which the reasons are sought.
+#[derive(Clone, Copy, Debug, PartialEq, Eq)]
+pub enum KeyFault {
+    /// There is no byte.
+    Empty,
+    /// There are more than 255 bytes.
+    TooLong,
+    /// The byte at this place, from 0, is the first that the bucket has not.
+    BadByte { at: u64 },
+    /// The part with this index, from 0, is the first that breaks its rule or stands in the way.
+    BadSegment { index: u64 },
+    /// The first segment is a reserved word.
+    Reserved,
+    /// Want of memory.
+    Memory,
+}
+
+impl From<NoMemory> for KeyFault {
+    ghost from_gives = { λ _ e. e ≡ Memory };
+
+    fn from(_: NoMemory) -> Self {
+        KeyFault::Memory
+    }
+}
+
+impl Copied for ClaimKey {
+    fn copy(&self, alloc: Global) -> Result<Self, NoMemory> {
+        Ok(ClaimKey {
+            bucket: self.bucket,
+            value: self.value.copy(alloc)?,
+        })
+    }
+}
+
+impl ClaimKey {
+    /// The key that a bucket reads from a text, in small letters, or the first refusal in the order
+    /// of [`KeyFault`]. The grammar is in `specs/Keys`.
+    pub fn read(alloc: Global, bucket: Bucket, text: &[u8]) -> Result<ClaimKey, KeyFault>
+        ensures { GivesKey result (key_of bucket text.now) }
+    {
+        if text.is_empty() {
+            return Err(KeyFault::Empty);
+        }
+        if text.len() as u64 > KEY_BYTES {
+            return Err(KeyFault::TooLong);
+        }
+        let value = lowered(alloc, text)?;
+        if let Some(at) = bad_byte(bucket, value.as_slice()) {
+            return Err(KeyFault::BadByte { at: at as u64 });
+        }
+        if let Some(index) = bad_part(bucket, value.as_slice()) {
+            return Err(KeyFault::BadSegment { index });
+        }
+        if is_reserved(bucket, value.as_slice()) {
+            return Err(KeyFault::Reserved);
+        }
+        Ok(ClaimKey { bucket, value })
+    }
+}

@@ -1,0 +1,45 @@
+//! The values of the claim map: keys, leases, operations, ranges, records, and the messages about
+//! them.
+//!
+//! A claim key is a bucket and a value. It is read from a text by the grammar of its bucket, which
+//! lower-cases it:
+//!
+//! ```text
+//! let key = ClaimKey::read(alloc, Bucket::Route, b"Acme/App")?;   // the route `acme/app`
+//! let lease = LeaseId { cell: 1, epoch: 1, attempt: 1 };
+//! lease.to_uuid()                          // 00010000-0001-8000-8000-000000000001
+//! ```
+//!
+//! Promised: [`ClaimKey::read`] gives exactly the key, or the first refusal in order, that
+//! `specs/Keys` states for the whole text; [`LeaseId::to_uuid`] and [`LeaseId::from_uuid`] are
+//! exact both ways over the bits that `specs/Leases` states. `specs/Order` has the orders of keys
+//! and leases, with their laws in `proofs/Ordered`. Everything else here is plain data.
+#![tactic(auto)]
+
+mod cell;
+mod entry;
+mod grammar;
+mod key;
+mod lease;
+mod limits;
+mod message;
+mod operations;
+mod question;
+mod record;
+mod step;
+mod verdict;
+
+pub use cell::{Cell, Range};
+pub use cells_base::{Copied, Items, NoMemory, Text};
+pub use entry::{CellEntry, ServiceEntry};
+pub use key::{Bucket, ClaimKey, KeyFault};
+pub use lease::{Holding, How, LeaseId};
+pub use limits::{
+    BODY, GREATEST_ATTEMPT, GREATEST_CELL, GREATEST_IDENTIFIER, KEY_BYTES, OPEN_LEASES, OPERATIONS,
+};
+pub use message::{BegunResult, Reply, Request};
+pub use operations::{Create, Creates, Keys, Operations, Origin, Subject};
+pub use question::{Class, Question};
+pub use record::{Change, Kind, Record};
+pub use step::{Step, Transition};
+pub use verdict::{Denial, Refusal, Verdict};

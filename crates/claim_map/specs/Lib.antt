@@ -1,0 +1,6 @@
+pub mod Registry
+pub mod State
+pub mod Verdict
+pub mod Records
+pub mod Step
+pub mod Due

@@ -3,4 +3,5 @@ pub mod State
 pub mod Verdict
 pub mod Records
 pub mod Step
+pub mod Pages
 pub mod Due

@@ -24,6 +24,7 @@ mod lease;
 mod limits;
 mod message;
 mod operations;
+mod page;
 mod question;
 mod record;
 mod step;
@@ -35,10 +36,12 @@ pub use entry::{CellEntry, ServiceEntry};
 pub use key::{Bucket, ClaimKey, KeyFault};
 pub use lease::{Holding, How, LeaseId};
 pub use limits::{
-    BODY, GREATEST_ATTEMPT, GREATEST_CELL, GREATEST_IDENTIFIER, KEY_BYTES, OPEN_LEASES, OPERATIONS,
+    BODY, CLAIMS_A_PAGE, GREATEST_ATTEMPT, GREATEST_CELL, GREATEST_IDENTIFIER, KEY_BYTES,
+    LEASES_A_PAGE, OPEN_LEASES, OPERATIONS,
 };
 pub use message::{BegunResult, Reply, Request};
 pub use operations::{Create, Creates, Keys, Operations, Origin, Subject};
+pub use page::{ClaimItem, ClaimItems, ClaimPage, LeaseIds, LeasePage};
 pub use question::{Class, Question};
 pub use record::{Change, Kind, Record};
 pub use step::{Step, Transition};

@@ -18,3 +18,9 @@ pub const GREATEST_ATTEMPT: u64 = 4_611_686_018_427_387_903;
 
 /// The most bytes of a claim key's value.
 pub const KEY_BYTES: u64 = 255;
+
+/// The most leases of one page.
+pub const LEASES_A_PAGE: u64 = 100;
+
+/// The most claims of one page.
+pub const CLAIMS_A_PAGE: u64 = 64;

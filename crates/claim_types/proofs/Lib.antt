@@ -1,4 +1,4 @@
 mod Parts
-mod LeaseBits
+pub mod LeaseBits
 pub mod Equal
 pub mod Ordered

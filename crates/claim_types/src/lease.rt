@@ -1,6 +1,5 @@
 ghost use Rattle.std.specs.Prelude.{◌≡◌, ◌↔◌, IsTrue, IfSome, IfNone};
-ghost use Rattle.claim_types.specs.declared.lease.LeaseId.{LeaseId};
-ghost use Rattle.claim_types.specs.Leases.{IsLease, lease_bytes, NamesLease};
+ghost use Rattle.claim_types.specs.Leases.{IsLease, lease_bytes, NamesLease, is_lease, lease_in, numbers_in};
 
 use crate::{GREATEST_ATTEMPT, GREATEST_CELL, Origin, Subject};
 use uuid::Uuid;
@@ -36,7 +35,8 @@ const VARIANT: u64 = 0x8000_0000_0000_0000;
 
 impl LeaseId {
     fn is_within_bounds(self) -> bool
-        ensures { IsTrue result ↔ IsLease self }
+        ensures test { result ≡ is_lease self }
+        ensures fact { IsTrue result ↔ IsLease self }
     {
         1 <= self.cell
             && self.cell <= GREATEST_CELL
@@ -57,9 +57,9 @@ impl LeaseId {
         Uuid::from_bytes([a, b, c, d, e, f, 0x80, 0, s, t, u, v, w, x, y, z])
     }
 
-    // The numbers that stand in the bytes of a UUID, where it names a lease.
+    // The numbers that stand in the places of a lease's numbers.
     fn numbers_in(id: Uuid) -> LeaseId
-        ensures { (lease : LeaseId) → IsLease lease → lease_bytes lease ≡ id → result ≡ lease }
+        ensures { result ≡ numbers_in id }
     {
         let [a, b, c, d, e, f, _, _, s, t, u, v, w, x, y, z] = id.into_bytes();
         let low = u64::from_be_bytes([s, t, u, v, w, x, y, z]);
@@ -72,6 +72,7 @@ impl LeaseId {
 
     /// The lease that a UUID names, if it names one.
     pub fn from_uuid(id: Uuid) -> Option<LeaseId>
+        ensures value { result ≡ lease_in id }
         ensures some { IfSome result (λ lease. IsLease lease × (lease_bytes lease ≡ id)) }
         ensures none { IfNone result (NamesLease id → ⊥) }
     {

@@ -2,3 +2,4 @@ mod Parts
 pub mod LeaseBits
 pub mod Equal
 pub mod Ordered
+pub mod Numbers

@@ -3,3 +3,4 @@ pub mod Order
 pub mod Keys
 pub mod Leases
 pub mod Operations
+pub mod Numbers

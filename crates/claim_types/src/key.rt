@@ -1,6 +1,8 @@
 ghost use Rattle.std.specs.Prelude.{◌≡◌};
 ghost use Rattle.claim_types.specs.declared.key.KeyFault.TheVariants.{Memory};
 ghost use Rattle.claim_types.specs.Keys.{GivesKey, key_of};
+ghost use Rattle.claim_types.specs.Order.{bucket_number};
+ghost use Rattle.claim_types.specs.Numbers.{numbered_bucket};
 
 use crate::grammar::{bad_byte, bad_part, is_reserved, lowered};
 use crate::{Copied, KEY_BYTES, NoMemory, Text};
@@ -39,6 +41,35 @@ pub enum KeyFault {
     Reserved,
     /// Want of memory.
     Memory,
+}
+
+impl Bucket {
+    /// The bucket's number, from 1.
+    pub fn number(self) -> u8
+        ensures { result ≡ bucket_number self }
+    {
+        match self {
+            Bucket::OrganizationPath => 1,
+            Bucket::Route => 2,
+            Bucket::Address => 3,
+            Bucket::SshKey => 4,
+            Bucket::PagesDomain => 5,
+        }
+    }
+
+    /// The bucket with this number, if there is one.
+    pub fn from_number(number: u8) -> Option<Bucket>
+        ensures { result ≡ numbered_bucket number }
+    {
+        match number {
+            1 => Some(Bucket::OrganizationPath),
+            2 => Some(Bucket::Route),
+            3 => Some(Bucket::Address),
+            4 => Some(Bucket::SshKey),
+            5 => Some(Bucket::PagesDomain),
+            _ => None,
+        }
+    }
 }
 
 impl From<NoMemory> for KeyFault {

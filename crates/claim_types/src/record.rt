@@ -1,3 +1,7 @@
+ghost use Rattle.std.specs.Prelude.{◌≡◌};
+ghost use Rattle.claim_types.specs.Order.{kind_number};
+ghost use Rattle.claim_types.specs.Numbers.{numbered_kind};
+
 use cells_base::Text;
 
 /// The kinds of records. A kind's number, from 1, is that of its table.
@@ -10,6 +14,39 @@ pub enum Kind {
     Key,
     Address,
     Domain,
+}
+
+impl Kind {
+    /// The kind's number, from 1.
+    pub fn number(self) -> u8
+        ensures { result ≡ kind_number self }
+    {
+        match self {
+            Kind::Organization => 1,
+            Kind::Group => 2,
+            Kind::Project => 3,
+            Kind::User => 4,
+            Kind::Key => 5,
+            Kind::Address => 6,
+            Kind::Domain => 7,
+        }
+    }
+
+    /// The kind with this number, if there is one.
+    pub fn from_number(number: u8) -> Option<Kind>
+        ensures { result ≡ numbered_kind number }
+    {
+        match number {
+            1 => Some(Kind::Organization),
+            2 => Some(Kind::Group),
+            3 => Some(Kind::Project),
+            4 => Some(Kind::User),
+            5 => Some(Kind::Key),
+            6 => Some(Kind::Address),
+            7 => Some(Kind::Domain),
+            _ => None,
+        }
+    }
 }
 
 /// A record of a cell.

@@ -4,3 +4,4 @@ pub mod Keys
 pub mod Leases
 pub mod Operations
 pub mod Numbers
+pub mod Names

@@ -3,6 +3,7 @@ ghost use Rattle.claim_types.specs.declared.key.KeyFault.TheVariants.{Memory};
 ghost use Rattle.claim_types.specs.Keys.{GivesKey, key_of};
 ghost use Rattle.claim_types.specs.Order.{bucket_number};
 ghost use Rattle.claim_types.specs.Numbers.{numbered_bucket};
+ghost use Rattle.claim_types.specs.Names.{bucket_name, named_bucket};
 
 use crate::grammar::{bad_byte, bad_part, is_reserved, lowered};
 use crate::{Copied, KEY_BYTES, NoMemory, Text};
@@ -69,6 +70,41 @@ impl Bucket {
             5 => Some(Bucket::PagesDomain),
             _ => None,
         }
+    }
+
+    /// The bucket's name.
+    pub fn name(self) -> &'static str
+        ensures { result.now ≡ bucket_name self }
+    {
+        match self {
+            Bucket::OrganizationPath => "organization_path",
+            Bucket::Route => "route",
+            Bucket::Address => "address",
+            Bucket::SshKey => "ssh_key",
+            Bucket::PagesDomain => "pages_domain",
+        }
+    }
+
+    /// The bucket with this name, if there is one.
+    pub fn from_name(name: &str) -> Option<Bucket>
+        ensures { result ≡ named_bucket name.now }
+    {
+        if name == "organization_path" {
+            return Some(Bucket::OrganizationPath);
+        }
+        if name == "route" {
+            return Some(Bucket::Route);
+        }
+        if name == "address" {
+            return Some(Bucket::Address);
+        }
+        if name == "ssh_key" {
+            return Some(Bucket::SshKey);
+        }
+        if name == "pages_domain" {
+            return Some(Bucket::PagesDomain);
+        }
+        None
     }
 }
 

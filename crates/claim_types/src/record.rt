@@ -1,6 +1,7 @@
 ghost use Rattle.std.specs.Prelude.{◌≡◌};
 ghost use Rattle.claim_types.specs.Order.{kind_number};
 ghost use Rattle.claim_types.specs.Numbers.{numbered_kind};
+ghost use Rattle.claim_types.specs.Names.{kind_name, named_subject_kind};
 
 use cells_base::Text;
 
@@ -46,6 +47,40 @@ impl Kind {
             7 => Some(Kind::Domain),
             _ => None,
         }
+    }
+
+    /// The kind's name.
+    pub fn name(self) -> &'static str
+        ensures { result.now ≡ kind_name self }
+    {
+        match self {
+            Kind::Organization => "organization",
+            Kind::Group => "group",
+            Kind::Project => "project",
+            Kind::User => "user",
+            Kind::Key => "key",
+            Kind::Address => "address",
+            Kind::Domain => "domain",
+        }
+    }
+
+    /// The kind with this name, if it is one that a claim may speak of.
+    pub fn subject_from_name(name: &str) -> Option<Kind>
+        ensures { result ≡ named_subject_kind name.now }
+    {
+        if name == "organization" {
+            return Some(Kind::Organization);
+        }
+        if name == "group" {
+            return Some(Kind::Group);
+        }
+        if name == "project" {
+            return Some(Kind::Project);
+        }
+        if name == "user" {
+            return Some(Kind::User);
+        }
+        None
     }
 }
 

@@ -1,0 +1,3 @@
+mod Absent
+mod Counted
+mod Utf8

@@ -1,0 +1,8 @@
+use Rattle.std.proofs.Common.{◌≡◌, drop}
+use Rattle.serde_json.specs.View.{items_view}
+use Rattle.message_json.specs.Reading.{with_front}
+use Rattle.message_json.specs.Requests.{creates_of}
+use Rattle.message_json.proofs.request.creates_of.Given as goal
+
+abbrev pub invariant-loop-value : goal.invariant-loop-value
+invariant-loop-value l = with_front l.creates.items (creates_of (items_view (drop l.value-index l.values))) ≡ creates_of (items_view l.values)

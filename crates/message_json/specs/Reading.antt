@@ -1,0 +1,117 @@
+-- How the members of a body are read: one after the other, up to the first fault.
+use Rattle.std.specs.Prelude.{◌≡◌, ℕ, Bool, ◌||◌, nat_lt, if◌then◌else◌, List, [], ◌∷◌, ◌++◌, Option, Some, None, option_and_then, Result, Ok, Err}
+use Rattle.serde_json.specs.Data.{Data, Num, Items, Members}
+use Rattle.serde_json.specs.Find.{get, as_number, as_u64, as_str, as_array, as_object}
+use denote.Ref.{Bor}
+use Rattle.serde_json.specs.View.{view, items_view}
+use Rattle.serde_json.specs.declared.value.Value.{Value}
+use Rattle.uuid.specs.Text.{parsed}
+use Rattle.claim_types.specs.Keys.{key_of}
+use Rattle.claim_types.specs.Leases.{lease_in}
+use Rattle.claim_types.specs.Names.{named_bucket, named_subject_kind}
+use Rattle.claim_types.specs.Numbers.{numbered_kind}
+use Rattle.claim_types.specs.declared.lease.LeaseId.{LeaseId}
+use Rattle.claim_types.specs.declared.key.ClaimKey.{ClaimKey}
+use Rattle.claim_types.specs.declared.key.KeyFault.{KeyFault}
+use Rattle.claim_types.specs.declared.key.Bucket.{Bucket}
+use Rattle.claim_types.specs.declared.record.Kind.{Kind}
+use Rattle.message_json.specs.declared.member.Member.{Member}
+use Rattle.message_json.specs.declared.member.Member.TheVariants.{Bucket as BucketMember, Value as ValueMember, Subject as SubjectMember, Table as TableMember}
+use Rattle.message_json.specs.declared.fault.BodyFault.{BodyFault}
+use Rattle.message_json.specs.declared.fault.BodyFault.TheVariants.{NotJson, Missing, WrongKind, BadValue, Memory}
+use Rattle.message_json.specs.Members.{member_text}
+
+-- a step after another that found no fault
+infixl 10 ◌>>=◌
+abbrev pub ◌>>=◌ : {A B : Type 0} → Result A BodyFault → (A → Result B BodyFault) → Result B BodyFault
+(Ok x) >>= f = f x
+(Err e) >>= f = Err e
+
+-- what was returned is what the rule says, unless memory ran out
+abbrev pub Fails : {A : Type 0} → BodyFault → Result A BodyFault → Type 0
+Fails Memory rule = Unit {0}
+Fails NotJson rule = rule ≡ Err NotJson
+Fails (Missing which) rule = rule ≡ Err (Missing which)
+Fails (WrongKind which) rule = rule ≡ Err (WrongKind which)
+Fails (BadValue which) rule = rule ≡ Err (BadValue which)
+
+abbrev pub Gives : {A : Type 0} → Result A BodyFault → Result A BodyFault → Type 0
+Gives (Ok x) rule = rule ≡ Ok x
+Gives (Err e) rule = Fails e rule
+
+-- the three faults of a member
+abbrev pub present : {A : Type 0} → Member → Option A → Result A BodyFault
+present which None = Err (Missing which)
+present which (Some x) = Ok x
+
+abbrev pub of_kind : {A : Type 0} → Member → Option A → Result A BodyFault
+of_kind which None = Err (WrongKind which)
+of_kind which (Some x) = Ok x
+
+abbrev pub in_bounds : {A : Type 0} → Member → Option A → Result A BodyFault
+in_bounds which None = Err (BadValue which)
+in_bounds which (Some x) = Ok x
+
+-- a member of an object
+abbrev pub member_of : Member → Data → Result Data BodyFault
+member_of which body = present which (get (member_text which) body)
+
+-- a text
+abbrev pub text_member : Member → Data → Result (List ℕ) BodyFault
+text_member which body = member_of which body >>= λ d. of_kind which (as_str d)
+
+-- a whole number from low to high
+abbrev pub between : ℕ → ℕ → Option ℕ → Option ℕ
+between low high None = None
+between low high (Some n) = if nat_lt n low || nat_lt high n then None else Some n
+
+abbrev pub number_member : Member → ℕ → ℕ → Data → Result ℕ BodyFault
+number_member which low high body = member_of which body >>= λ d. of_kind which (as_number d) >>= λ n. in_bounds which (between low high (as_u64 n))
+
+-- an array
+abbrev pub array_member : Member → Data → Result Items BodyFault
+array_member which body = member_of which body >>= λ d. of_kind which (as_array d)
+
+-- the lease that a text names: every form of a UUID's text is taken
+abbrev pub lease_named : List ℕ → Option LeaseId
+lease_named text = option_and_then lease_in (parsed text)
+
+abbrev pub lease_member : Member → Data → Result LeaseId BodyFault
+lease_member which body = text_member which body >>= λ text. in_bounds which (lease_named text)
+
+-- a bucket by its name
+abbrev pub bucket_member : Data → Result Bucket BodyFault
+bucket_member body = text_member BucketMember body >>= λ text. in_bounds BucketMember (named_bucket text)
+
+-- a key's value is read by its grammar, and each refusal is a bad value
+abbrev pub key_in : Result ClaimKey KeyFault → Option ClaimKey
+key_in (Ok key) = Some key
+key_in (Err fault) = None
+
+abbrev pub key_member : Bucket → Data → Result ClaimKey BodyFault
+key_member bucket body = text_member ValueMember body >>= λ text. in_bounds ValueMember (key_in (key_of bucket text))
+
+-- the kind of a subject by its name
+abbrev pub subject_kind_member : Data → Result Kind BodyFault
+subject_kind_member body = text_member SubjectMember body >>= λ text. in_bounds SubjectMember (named_subject_kind text)
+
+-- a table by its number
+abbrev pub table_member : Data → Result Kind BodyFault
+table_member body = number_member TableMember 1 7 body >>= λ n. in_bounds TableMember (numbered_kind n)
+
+-- what a reader that lends a part of the body found
+abbrev pub Finds : Result (Bor Value) BodyFault → Result Data BodyFault → Type 0
+Finds (Ok found) rule = rule ≡ Ok (view found.now)
+Finds (Err e) rule = rule ≡ Err e
+
+abbrev pub FindsText : Result (Bor (List ℕ)) BodyFault → Result (List ℕ) BodyFault → Type 0
+FindsText (Ok found) rule = rule ≡ Ok found.now
+FindsText (Err e) rule = rule ≡ Err e
+
+abbrev pub FindsItems : Result (Bor (List Value)) BodyFault → Result Items BodyFault → Type 0
+FindsItems (Ok found) rule = rule ≡ Ok (items_view found.now)
+FindsItems (Err e) rule = rule ≡ Err e
+
+-- what was found so far, and then the rest
+abbrev pub with_front : {A : Type 0} → List A → Result (List A) BodyFault → Result (List A) BodyFault
+with_front front rest = rest >>= λ xs. Ok (front ++ xs)

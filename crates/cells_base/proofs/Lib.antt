@@ -1,3 +1,4 @@
 pub mod Scan
 pub mod Maps
 pub mod Place
+pub mod Entries

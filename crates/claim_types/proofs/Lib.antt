@@ -3,3 +3,4 @@ pub mod LeaseBits
 pub mod Equal
 pub mod Ordered
 pub mod Numbers
+pub mod KeyText

@@ -1,4 +1,4 @@
-ghost use Rattle.std.specs.Prelude.{◌≡◌};
+ghost use Rattle.std.specs.Prelude.{◌≡◌, IfOk, IsUtf8};
 ghost use Rattle.claim_types.specs.declared.key.KeyFault.TheVariants.{Memory};
 ghost use Rattle.claim_types.specs.Keys.{GivesKey, key_of};
 ghost use Rattle.claim_types.specs.Order.{bucket_number};
@@ -129,7 +129,8 @@ impl ClaimKey {
     /// The key that a bucket reads from a text, in small letters, or the first refusal in the order
     /// of [`KeyFault`]. The grammar is in `specs/Keys`.
     pub fn read(alloc: Global, bucket: Bucket, text: &[u8]) -> Result<ClaimKey, KeyFault>
-        ensures { GivesKey result (key_of bucket text.now) }
+        ensures key { GivesKey result (key_of bucket text.now) }
+        ensures text { IfOk result (λ key. IsUtf8 key.value) }
     {
         if text.is_empty() {
             return Err(KeyFault::Empty);

@@ -15,7 +15,9 @@
 mod fault;
 mod member;
 mod reader;
+mod reply;
 mod request;
 
 pub use fault::BodyFault;
 pub use member::Member;
+pub use request::read_request;

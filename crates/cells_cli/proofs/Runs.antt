@@ -9,7 +9,7 @@ use Rattle.cells_cli.specs.Spans.{IsWithin, bytes_at}
 use Rattle.cells_cli.specs.First.{IsLine}
 use Rattle.cells_cli.proofs.Cuts.{cut_at, cut_last, long_open, long_at}
 
-run_length : (b : List ℕ) (from to : ℕ) → to ≤ length b → length (slice_range b from to) ≡ to - from
+pub run_length : (b : List ℕ) (from to : ℕ) → to ≤ length b → length (slice_range b from to) ≡ to - from
 run_length b from to within = length-take-le (to - from) (drop from b) (omega (arith, length-drop from b))
 
 run_front : (b : List ℕ) (from to at : ℕ) → at ≤ to - from → slice_range b from (from + at) ≡ take at (slice_range b from to)

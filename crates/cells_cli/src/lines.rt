@@ -1,8 +1,9 @@
-ghost use Rattle.std.specs.Prelude.{◌≡◌, ◌≢◌, ◌+◌, ◌-◌, ◌≤◌, ◌<◌, ◌++◌, [], ◌∷◌, IsTrue, List, ℕ, length, take, drop, true, false, if◌then◌else◌, IfOk, IfSome, OnOk, OnErr, IsErrOf, position, None, Err};
+ghost use Rattle.std.specs.Prelude.{◌≡◌, ◌≢◌, ◌+◌, ◌-◌, ◌≤◌, ◌<◌, ◌++◌, [], ◌∷◌, IsTrue, List, ℕ, length, take, drop, true, false, if◌then◌else◌, IfOk, IfErr, IfSome, OnOk, OnErr, IsErrOf, position, None, Err};
 ghost use Rattle.cells_base.specs.Causes.{HasCause, Rose};
-ghost use Rattle.cells_cli.specs.Lines.{is_end, lines_of, IsNext, StartsLong};
+ghost use Rattle.cells_cli.specs.Lines.{is_end, first_refused, lines_of, IsNext, StartsLong};
 ghost use Rattle.cells_cli.specs.Spans.{IsWithin, bytes_at};
 ghost use Rattle.cells_cli.specs.First.{IsFirst};
+ghost use Rattle.cells_cli.specs.Refused.{Refuses};
 ghost use Rattle.cells_cli.specs.declared.lines.LineFault.TheVariants.{Read};
 
 use cells_base::NoMemory;
@@ -24,8 +25,8 @@ const LINE_FEED: u8 = 10;
 /// Why there is no next line.
 #[derive(Clone, Copy, Debug, PartialEq, Eq)]
 pub enum LineFault {
-    /// The next line has more bytes than the limit.
-    TooLong,
+    /// The next line has more bytes than the limit. Lines count from 1.
+    TooLong { line: u64 },
     /// As many lines as an input may have were given, and more text is there.
     TooMany,
     /// The source failed.
@@ -273,15 +274,15 @@ impl LineReader {
         ensures next { IsTrue S.tells → IfOk result (λ some. IsNext (self.old.pending ++ S.left source.old) some self.new.line (self.new.pending ++ S.left source.new)) }
         ensures counted { IfOk result (λ some. self.new.given ≡ (if some then self.old.given + 1 else self.old.given)) }
         ensures short { IfOk result (λ some. IsTrue some → (self.old.given < LINES) × (length self.new.line ≤ self.old.limit)) }
-        ensures long { IsErrOf result LineFault.TooLong → (self.old.given < LINES) × ((left : List ℕ) → StartsLong self.old.limit (self.new.pending ++ left)) }
-        ensures long_ahead { IsTrue S.tells → IsErrOf result LineFault.TooLong → StartsLong self.old.limit (self.old.pending ++ S.left source.old) }
+        ensures long { (line : ℕ) → IsErrOf result (LineFault.TooLong line) → (line ≡ self.old.given + 1) × (self.old.given < LINES) × ((left : List ℕ) → StartsLong self.old.limit (self.new.pending ++ left)) }
         ensures many { IsErrOf result LineFault.TooMany → (self.old.given ≡ LINES) × (self.new.pending ≢ []) }
-        ensures many_ahead { IsTrue S.tells → IsErrOf result LineFault.TooMany → self.old.pending ++ S.left source.old ≢ [] }
         ensures read { IsErrOf result LineFault.Read → Rose (S.faults source.old) (S.faults source.new) }
         ensures later { S.faults source.old ≤ S.faults source.new }
-        ensures refused { OnErr result (self.new.given ≡ self.old.given) }
-        ensures refused_ahead { IsTrue S.tells → OnErr result (self.new.pending ++ S.left source.new ≡ self.old.pending ++ S.left source.old) }
+        ensures stays { IsTrue S.tells → OnErr result (self.new.pending ++ S.left source.new ≡ self.old.pending ++ S.left source.old) }
+        ensures given { OnErr result (self.new.given ≡ self.old.given) }
         ensures limit { self.new.limit ≡ self.old.limit }
+        ensures passed { IsTrue S.tells → IfOk result (λ some. first_refused self.old.limit self.old.given (lines_of (self.old.pending ++ S.left source.old)) ≡ first_refused self.new.limit self.new.given (lines_of (self.new.pending ++ S.left source.new))) }
+        ensures refused { IsTrue S.tells → IfErr result (λ fault. Refuses fault (first_refused self.old.limit self.old.given (lines_of (self.old.pending ++ S.left source.old)))) }
     {
         let buffer = self.buffer.as_mut_slice();
         if self.given == LINES {
@@ -299,7 +300,9 @@ impl LineReader {
                 self.given += 1;
                 Ok(true)
             }
-            Found::Long => Err(LineFault::TooLong),
+            Found::Long => Err(LineFault::TooLong {
+                line: self.given + 1,
+            }),
             Found::End => Ok(false),
         }
     }

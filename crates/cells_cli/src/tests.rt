@@ -36,8 +36,12 @@ fn gives_lines_in_any_pieces(rt: HostRuntime) -> Result<(), Fail> {
         (b"\n", b"[]", None),
         (b"ab\ncd\n", b"[ab][cd]", None),
         (b"ab\r\n\ncd", b"[ab\r][][cd]", None),
-        (b"abcd\nabcde\nf", b"[abcd]", Some(LineFault::TooLong)),
-        (b"a\nabcdefgh", b"[a]", Some(LineFault::TooLong)),
+        (
+            b"abcd\nabcde\nf",
+            b"[abcd]",
+            Some(LineFault::TooLong { line: 2 }),
+        ),
+        (b"a\nabcdefgh", b"[a]", Some(LineFault::TooLong { line: 2 })),
     ];
     for (text, want, fault) in rows {
         for most in 1..12usize {

@@ -272,6 +272,7 @@ impl LineReader {
     /// Goes on to the next line, or answers false at the end of the text.
     pub fn next<S: Source>(&mut self, source: &mut S) -> Result<bool, LineFault>
         ensures next { IsTrue S.tells → IfOk result (λ some. IsNext (self.old.pending ++ S.left source.old) some self.new.line (self.new.pending ++ S.left source.new)) }
+        ensures end { IsTrue S.tells → IfOk result (λ some. some ≡ false → (lines_of (self.old.pending ++ S.left source.old) ≡ []) × (S.left source.new ≡ [])) }
         ensures counted { IfOk result (λ some. self.new.given ≡ (if some then self.old.given + 1 else self.old.given)) }
         ensures short { IfOk result (λ some. IsTrue some → (self.old.given < LINES) × (length self.new.line ≤ self.old.limit)) }
         ensures long { (line : ℕ) → IsErrOf result (LineFault.TooLong line) → (line ≡ self.old.given + 1) × (self.old.given < LINES) × ((left : List ℕ) → StartsLong self.old.limit (self.new.pending ++ left)) }

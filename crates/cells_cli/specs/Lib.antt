@@ -1,0 +1,4 @@
+pub mod First
+pub mod Lines
+pub mod Refused
+pub mod Spans

@@ -1,0 +1,90 @@
+//! Standard readers and writers as a source and a sink. They do not tell their bytes: nothing is
+//! promised of the outside world but that a fault is counted.
+ghost use Rattle.std.specs.Prelude.{◌≡◌, false, []};
+
+use crate::{Sink, SinkFailed, Source, SourceFailed};
+use std::io::{Read, Write};
+
+/// Any reader of std.
+#[derive(Drop)]
+pub struct StdSource<R: Read> {
+    inner: R,
+    faults: u64,
+}
+
+impl<R: Read> StdSource<R> {
+    pub fn new(inner: R) -> Self
+        ensures inner { result.inner ≡ inner }
+        ensures faults { result.faults ≡ 0 }
+    {
+        StdSource { inner, faults: 0 }
+    }
+}
+
+impl<R: Read> Source for StdSource<R> {
+    ghost tells = { false };
+
+    ghost left = { λ s. [] };
+
+    ghost faults = { λ s. s.faults };
+
+    fn read(&mut self, buf: &mut [u8]) -> Result<usize, SourceFailed> {
+        match self.inner.read(buf) {
+            Ok(count) => Ok(count),
+            Err(_) => {
+                self.faults = self.faults.saturating_add(1);
+                Err(SourceFailed)
+            }
+        }
+    }
+}
+
+/// Any writer of std. One that takes nothing of a piece that is not empty is a fault.
+#[derive(Drop)]
+pub struct StdSink<W: Write> {
+    inner: W,
+    faults: u64,
+}
+
+impl<W: Write> StdSink<W> {
+    pub fn new(inner: W) -> Self
+        ensures inner { result.inner ≡ inner }
+        ensures faults { result.faults ≡ 0 }
+    {
+        StdSink { inner, faults: 0 }
+    }
+
+    /// The writer, with what it was given.
+    pub fn into_inner(self) -> W
+    where
+        W: Drop,
+        ensures { result ≡ self.inner }
+    {
+        let StdSink { inner, .. } = self;
+        inner
+    }
+}
+
+impl<W: Write> Sink for StdSink<W> {
+    ghost tells = { false };
+
+    ghost written = { λ s. [] };
+
+    ghost faults = { λ s. s.faults };
+
+    fn write(&mut self, bytes: &[u8]) -> Result<usize, SinkFailed> {
+        match self.inner.write(bytes) {
+            Ok(count) => {
+                if count > 0 || bytes.is_empty() {
+                    return Ok(count);
+                }
+                self.faults = self.faults.saturating_add(1);
+                Err(SinkFailed)
+            }
+            Err(_) => {
+                self.faults = self.faults.saturating_add(1);
+                Err(SinkFailed)
+            }
+        }
+    }
+}

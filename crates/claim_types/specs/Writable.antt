@@ -15,11 +15,13 @@ use Rattle.claim_types.specs.declared.message.BegunResult.TheVariants.{Good, Den
 use Rattle.claim_types.specs.declared.message.Reply.{Reply}
 use Rattle.claim_types.specs.declared.message.Reply.TheVariants.{Begun}
 
-abbrev pub IsWritableKey : ClaimKey → Type 0
-IsWritableKey key = IsUtf8 key.value
+-- a key's value is a text
+pub record IsWritableKey (key : ClaimKey) : Type 0 where
+  pub text : IsUtf8 key.value
 
-abbrev pub AreWritable : Operations → Type 0
-AreWritable ops = All IsWritableKey (keys_of ops)
+-- so is the value of every key of the operations
+pub record AreWritable (ops : Operations) : Type 0 where
+  pub keys : All IsWritableKey (keys_of ops)
 
 abbrev pub IsWritableDenial : Denial → Type 0
 IsWritableDenial (Settled how) = Unit {0}

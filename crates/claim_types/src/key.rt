@@ -1,4 +1,4 @@
-ghost use Rattle.std.specs.Prelude.{◌≡◌, IfOk, IsUtf8};
+ghost use Rattle.std.specs.Prelude.{◌≡◌, IfOk};
 ghost use Rattle.claim_types.specs.declared.key.KeyFault.TheVariants.{Memory};
 ghost use Rattle.claim_types.specs.Keys.{GivesKey, key_of};
 ghost use Rattle.claim_types.specs.Order.{bucket_number};
@@ -126,11 +126,13 @@ impl Copied for ClaimKey {
 }
 
 impl ClaimKey {
+    ghost use Rattle.claim_types.specs.Writable.{IsWritableKey};
+
     /// The key that a bucket reads from a text, in small letters, or the first refusal in the order
     /// of [`KeyFault`]. The grammar is in `specs/Keys`.
     pub fn read(alloc: Global, bucket: Bucket, text: &[u8]) -> Result<ClaimKey, KeyFault>
         ensures key { GivesKey result (key_of bucket text.now) }
-        ensures text { IfOk result (λ key. IsUtf8 key.value) }
+        ensures text { IfOk result IsWritableKey }
     {
         if text.is_empty() {
             return Err(KeyFault::Empty);

@@ -20,7 +20,7 @@ use Rattle.message_json.specs.declared.member.Member.{Member}
 use Rattle.message_json.specs.Members.{member_text}
 
 -- the text of a lease: the lower-case hyphenated form of its UUID
-abbrev pub lease_text : LeaseId → List ℕ
+unfoldable pub lease_text : LeaseId → List ℕ
 lease_text lease = hyphenated_text lower (lease_bytes lease)
 
 abbrev pub how_text : How → List ℕ

@@ -1,5 +1,7 @@
 //! The members of a body, each read by its rule.
-ghost use Rattle.std.specs.Prelude.{◌≡◌, option_map};
+ghost use Rattle.std.specs.Prelude.{◌≡◌, IfOk, IfSome};
+ghost use Rattle.claim_types.specs.Leases.{IsLease};
+ghost use Rattle.claim_types.specs.Writable.{IsWritableKey};
 ghost use Rattle.serde_json.specs.View.{view, items_view};
 ghost use Rattle.message_json.specs.Reading as spec;
 ghost use Rattle.message_json.specs.Reading.{Gives};
@@ -56,7 +58,8 @@ pub fn array(body: &Value, name: Member) -> Result<&[Value], BodyFault>
 }
 
 fn lease_named(text: &str) -> Option<LeaseId>
-    ensures { result ≡ spec.lease_named text.now }
+    ensures value { result ≡ spec.lease_named text.now }
+    ensures bounds { IfSome result IsLease }
 {
     match Uuid::parse_str(text) {
         Ok(id) => LeaseId::from_uuid(id),
@@ -65,7 +68,8 @@ fn lease_named(text: &str) -> Option<LeaseId>
 }
 
 pub fn lease(body: &Value, name: Member) -> Result<LeaseId, BodyFault>
-    ensures { result ≡ spec.lease_member name (view body.now) }
+    ensures value { result ≡ spec.lease_member name (view body.now) }
+    ensures bounds { IfOk result IsLease }
 {
     match lease_named(text(body, name)?) {
         Some(lease) => Ok(lease),
@@ -105,7 +109,8 @@ pub fn table(body: &Value) -> Result<Kind, BodyFault>
 }
 
 pub fn key(alloc: Global, body: &Value, bucket: Bucket) -> Result<ClaimKey, BodyFault>
-    ensures { Gives result (spec.key_member bucket (view body.now)) }
+    ensures value { Gives result (spec.key_member bucket (view body.now)) }
+    ensures text { IfOk result IsWritableKey }
 {
     let name = Member::Value;
     match ClaimKey::read(alloc, bucket, text(body, name)?.as_bytes()) {

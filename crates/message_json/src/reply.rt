@@ -62,22 +62,54 @@ fn foreign(alloc: Global, lease: &str, id: u64) -> Result<Value, AllocError>
     json!(in alloc; { "id": id, "lease": lease, "reply": "begun", "result": "foreign_id" })
 }
 
-fn keyed(alloc: Global, lease: &str, outcome: &str, bucket: &str, value: &str) -> Result<Value, AllocError>
+fn keyed(
+    alloc: Global,
+    lease: &str,
+    outcome: &str,
+    bucket: &str,
+    value: &str,
+) -> Result<Value, AllocError>
     ensures { IfOk result (λ v. view v ≡ spec.keyed_data lease.now outcome.now bucket.now value.now) }
 {
     json!(in alloc; { "bucket": bucket, "lease": lease, "reply": "begun", "result": outcome, "value": value })
 }
 
-fn owned(alloc: Global, lease: &str, bucket: &str, value: &str, owner: u16) -> Result<Value, AllocError>
+fn owned(
+    alloc: Global,
+    lease: &str,
+    bucket: &str,
+    value: &str,
+    owner: u16,
+) -> Result<Value, AllocError>
     ensures { IfOk result (λ v. view v ≡ spec.owned_data lease.now bucket.now value.now owner) }
 {
     json!(in alloc; { "bucket": bucket, "lease": lease, "owner": owner, "reply": "begun", "result": "owned", "value": value })
 }
 
-fn leased(alloc: Global, lease: &str, bucket: &str, value: &str, by: &str) -> Result<Value, AllocError>
+fn leased(
+    alloc: Global,
+    lease: &str,
+    bucket: &str,
+    value: &str,
+    by: &str,
+) -> Result<Value, AllocError>
     ensures { IfOk result (λ v. view v ≡ spec.leased_data lease.now bucket.now value.now by.now) }
 {
     json!(in alloc; { "bucket": bucket, "by": by, "lease": lease, "reply": "begun", "result": "leased", "value": value })
+}
+
+fn leased_by(
+    alloc: Global,
+    lease: &str,
+    bucket: &str,
+    value: &str,
+    by: LeaseId,
+) -> Result<Value, AllocError>
+    requires { IsLease by }
+    ensures { IfOk result (λ v. view v ≡ spec.leased_data lease.now bucket.now value.now (spec.lease_text by)) }
+{
+    let mut room = Uuid::encode_buffer();
+    leased(alloc, lease, bucket, value, lease_text(by, &mut room))
 }
 
 fn denied(alloc: Global, lease: &str, denial: &Denial) -> Result<Value, AllocError>
@@ -89,7 +121,13 @@ fn denied(alloc: Global, lease: &str, denial: &Denial) -> Result<Value, AllocErr
         Denial::OtherOperations => plain(alloc, lease, "other_operations"),
         Denial::NoneOrTooMany { n } => count(alloc, lease, *n),
         Denial::Twice { key } => {
-            keyed(alloc, lease, "twice", key.bucket.name(), text_of(&key.value))
+            keyed(
+                alloc,
+                lease,
+                "twice",
+                key.bucket.name(),
+                text_of(&key.value),
+            )
         }
         Denial::ForeignId { id } => foreign(alloc, lease, *id),
         Denial::TooManyOpen => plain(alloc, lease, "too_many_open"),
@@ -97,12 +135,16 @@ fn denied(alloc: Global, lease: &str, denial: &Denial) -> Result<Value, AllocErr
             owned(alloc, lease, key.bucket.name(), text_of(&key.value), *cell)
         }
         Denial::Leased { key, lease: by } => {
-            let mut room = Uuid::encode_buffer();
-            let by = lease_text(*by, &mut room);
-            leased(alloc, lease, key.bucket.name(), text_of(&key.value), by)
+            leased_by(alloc, lease, key.bucket.name(), text_of(&key.value), *by)
         }
         Denial::NotOwned { key } => {
-            keyed(alloc, lease, "not_owned", key.bucket.name(), text_of(&key.value))
+            keyed(
+                alloc,
+                lease,
+                "not_owned",
+                key.bucket.name(),
+                text_of(&key.value),
+            )
         }
     }
 }
@@ -117,15 +159,21 @@ fn begun(alloc: Global, lease: &str, outcome: &BegunResult) -> Result<Value, All
     }
 }
 
+fn begun_reply(alloc: Global, lease: LeaseId, outcome: &BegunResult) -> Result<Value, AllocError>
+    requires bounds { IsLease lease }
+    requires texts { IsWritableResult outcome.now }
+    ensures { IfOk result (λ v. view v ≡ spec.begun_data (spec.lease_text lease) outcome.now) }
+{
+    let mut room = Uuid::encode_buffer();
+    begun(alloc, lease_text(lease, &mut room), outcome)
+}
+
 fn reply_value(alloc: Global, reply: &Reply) -> Result<Value, AllocError>
     requires { IsWritableReply reply.now }
     ensures { IfOk result (λ v. view v ≡ spec.reply_data reply.now) }
 {
     match reply {
-        Reply::Begun { lease, result } => {
-            let mut room = Uuid::encode_buffer();
-            begun(alloc, lease_text(*lease, &mut room), result)
-        }
+        Reply::Begun { lease, result } => begun_reply(alloc, *lease, result),
     }
 }
 

@@ -1,4 +1,7 @@
-ghost use Rattle.std.specs.Prelude.{◌≡◌, IsUtf8, Err};
+ghost use Rattle.std.specs.Prelude.{◌≡◌, IfOk};
+ghost use Rattle.std.specs.List.{All};
+ghost use Rattle.claim_types.specs.Leases.{IsLease};
+ghost use Rattle.claim_types.specs.Writable.{IsWritableKey, IsWritableRequest};
 ghost use Rattle.serde_json.specs.View.{view, items_view};
 ghost use Rattle.serde_json.specs.Read.{read as read_text};
 ghost use Rattle.message_json.specs.Reading.{Gives};
@@ -17,7 +20,8 @@ use std::alloc::Global;
 pub const FIRST_ROWS: u64 = 1_000_000;
 
 fn create_members(alloc: Global, body: &Value) -> Result<Create, BodyFault>
-    ensures { Gives result (spec.create_members (view body.now)) }
+    ensures value { Gives result (spec.create_members (view body.now)) }
+    ensures text { IfOk result (λ create. IsWritableKey create.key) }
 {
     let bucket = bucket(body)?;
     if bucket != Bucket::Route {
@@ -39,7 +43,8 @@ fn create_members(alloc: Global, body: &Value) -> Result<Create, BodyFault>
 
 #[tactic(auto, unfolding(crate::specs::Requests::create_of))]
 fn create_of(alloc: Global, value: &Value) -> Result<Create, BodyFault>
-    ensures { Gives result (spec.create_of (view value.now)) }
+    ensures value { Gives result (spec.create_of (view value.now)) }
+    ensures text { IfOk result (λ create. IsWritableKey create.key) }
 {
     if !value.is_object() {
         return Err(BodyFault::WrongKind {
@@ -50,17 +55,20 @@ fn create_of(alloc: Global, value: &Value) -> Result<Create, BodyFault>
 }
 
 fn creates_of(alloc: Global, values: &[Value]) -> Result<Creates, BodyFault>
-    ensures { Gives result (spec.creates_of (items_view values.now)) }
+    ensures value { Gives result (spec.creates_of (items_view values.now)) }
+    ensures texts { IfOk result (λ creates. All (λ create. IsWritableKey create.key) creates) }
 {
     let mut creates = Vec::with_capacity(alloc, values.len())?;
     for value in values {
-        creates.push(create_of(alloc, value)?)?;
+        let create = create_of(alloc, value)?;
+        creates.push(create)?;
     }
     Ok(Items::from_vec(creates))
 }
 
 fn first_lease(body: &Value) -> Result<LeaseId, BodyFault>
-    ensures { result ≡ spec.first_lease (view body.now) }
+    ensures value { result ≡ spec.first_lease (view body.now) }
+    ensures bounds { IfOk result IsLease }
 {
     let name = Member::Lease;
     let lease = lease(body, name)?;
@@ -91,7 +99,8 @@ fn is_nothing(elements: &[Value]) -> bool
 
 #[tactic(auto, unfolding(crate::specs::Requests::creates_member))]
 fn creates_member(alloc: Global, body: &Value) -> Result<Creates, BodyFault>
-    ensures { Gives result (spec.creates_member (view body.now)) }
+    ensures value { Gives result (spec.creates_member (view body.now)) }
+    ensures texts { IfOk result (λ creates. All (λ create. IsWritableKey create.key) creates) }
 {
     let name = Member::Creates;
     let elements = array(body, name)?;
@@ -103,7 +112,8 @@ fn creates_member(alloc: Global, body: &Value) -> Result<Creates, BodyFault>
 
 #[tactic(auto, unfolding(crate::specs::Requests::destroys_member))]
 fn destroys_member(alloc: Global, body: &Value) -> Result<Keys, BodyFault>
-    ensures { Gives result (spec.destroys_member (view body.now)) }
+    ensures value { Gives result (spec.destroys_member (view body.now)) }
+    ensures texts { IfOk result (All IsWritableKey) }
 {
     let name = Member::Destroys;
     if !is_nothing(array(body, name)?) {
@@ -113,7 +123,8 @@ fn destroys_member(alloc: Global, body: &Value) -> Result<Keys, BodyFault>
 }
 
 fn begin_of(alloc: Global, body: &Value) -> Result<Request, BodyFault>
-    ensures { Gives result (spec.begin_of (view body.now)) }
+    ensures value { Gives result (spec.begin_of (view body.now)) }
+    ensures writable { IfOk result IsWritableRequest }
 {
     let lease = first_lease(body)?;
     let creates = creates_member(alloc, body)?;
@@ -123,7 +134,8 @@ fn begin_of(alloc: Global, body: &Value) -> Result<Request, BodyFault>
 }
 
 fn request_in(alloc: Global, body: &Value) -> Result<Request, BodyFault>
-    ensures { Gives result (spec.of_data (view body.now)) }
+    ensures value { Gives result (spec.of_data (view body.now)) }
+    ensures writable { IfOk result IsWritableRequest }
 {
     if !body.is_object() {
         return Err(BodyFault::NotJson);
@@ -135,7 +147,8 @@ fn request_in(alloc: Global, body: &Value) -> Result<Request, BodyFault>
 }
 
 fn request_of_text(alloc: Global, text: &str) -> Result<Request, BodyFault>
-    ensures { Gives result (spec.of_read (read_text text.now)) }
+    ensures value { Gives result (spec.of_read (read_text text.now)) }
+    ensures writable { IfOk result IsWritableRequest }
 {
     match Value::from_str(alloc, text) {
         Ok(value) => request_in(alloc, &value),
@@ -148,9 +161,10 @@ fn request_of_text(alloc: Global, text: &str) -> Result<Request, BodyFault>
     }
 }
 
-/// The request that a body is.
+/// The request that a body is, or the first fault in the order of the members.
 pub fn read_request(alloc: Global, body: &[u8]) -> Result<Request, BodyFault>
-    ensures { Gives result (spec.request_of body.now) }
+    ensures value { Gives result (spec.request_of body.now) }
+    ensures writable { IfOk result IsWritableRequest }
 {
     match str::from_utf8(body) {
         Ok(text) => request_of_text(alloc, text),

@@ -3,5 +3,5 @@ use Rattle.uuid.specs.Text.{parsed}
 use Rattle.message_json.proofs.Absent.{none_named}
 use Rattle.message_json.proofs.reader.lease_named.Goals as goal
 
-pub returns-in-Err : goal.returns-in-Err
-returns-in-Err c = none_named (parsed c.args.text.now) (λ w. false≢true (c.in-Err.ensures.ok.1 w))
+pub returns-in-Err-clause-value : goal.returns-in-Err-clause-value
+returns-in-Err-clause-value c = none_named (parsed c.args.text.now) (λ w. false≢true (c.in-Err.ensures.ok.1 w))

@@ -1,6 +1,8 @@
 use Rattle.std.proofs.Common.{◌∙◌, ap}
 use Rattle.uuid.specs.Text.{hyphenated_text, lower}
+use Rattle.message_json.specs.Replies.{lease_text}
 use Rattle.message_json.proofs.reply.lease_text.Goals as goal
 
 pub returns : goal.returns
+unfolding lease_text
 returns c = c.encode_lower.ensures.text ∙ ap (hyphenated_text lower) (c.hyphenated.ensures ∙ c.to_uuid.ensures)

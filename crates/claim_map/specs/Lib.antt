@@ -5,3 +5,4 @@ pub mod Records
 pub mod Step
 pub mod Pages
 pub mod Due
+pub mod Writable

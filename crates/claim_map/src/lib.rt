@@ -18,3 +18,7 @@
 //! Promised here: a begin that comes to be fresh is of well-formed operations whose claims are free
 //! ([`fresh_is_free`]). The crates above promise that what they do is what these definitions say.
 #![tactic(auto)]
+
+mod laws;
+
+pub use laws::due_is_writable;

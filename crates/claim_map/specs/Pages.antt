@@ -3,7 +3,6 @@ use Rattle.std.specs.Prelude.{ℕ, Bool, true, false, ◌&&◌, nat_eq, nat_lt, 
 use Rattle.std.specs.Ordering.{nat_cmp, ordering_then, is_lt}
 use Rattle.std.specs.declared.cmp.Ordering.{Ordering}
 use Rattle.std.specs.FinMap as map
-use Rattle.std.specs.FinSet as set
 use Rattle.claim_types.specs.Order.{key_cmp, lease_cmp, bucket_number}
 use Rattle.claim_types.specs.declared.key.Bucket.{Bucket}
 use Rattle.claim_types.specs.declared.key.ClaimKey.{ClaimKey}
@@ -31,22 +30,26 @@ lease_page s cell last =
     let leases = leases_behind s.begun cell last in
     record { leases = take LEASES_A_PAGE leases; more = nat_lt LEASES_A_PAGE (length leases) }
 
--- claims by their row, and then by their key
-abbrev pub claim_cmp : ClaimItem → ClaimItem → Ordering
-claim_cmp a b = ordering_then (nat_cmp a.origin.row b.origin.row) (key_cmp a.key b.key)
+-- places by row, and then by key
+abbrev pub place_cmp : ℕ × ClaimKey → ℕ × ClaimKey → Ordering
+place_cmp a b = ordering_then (nat_cmp a.0 b.0) (key_cmp a.1 b.1)
 
 abbrev pub claim_of : ClaimKey × Holding → ClaimItem
 claim_of e = record { key = e.0; subject = e.1.subject; origin = e.1.origin }
+
+-- a claim at its place
+abbrev pub placed : ClaimKey × Holding → (ℕ × ClaimKey) × ClaimItem
+placed e = ((e.1.origin.row, e.0), claim_of e)
 
 -- a held key is of this cell and bucket, with a row from first to last and above after
 abbrev pub is_listed : ℕ → Bucket → ℕ → ℕ → ℕ → ClaimKey × Holding → Bool
 is_listed cell bucket first last after e =
     nat_eq e.1.cell cell && nat_eq (bucket_number e.0.bucket) (bucket_number bucket) && nat_le first e.1.origin.row && nat_le e.1.origin.row last && nat_lt after e.1.origin.row
 
--- these claims, in order
+-- these claims, in the order of their places
 abbrev pub claims_between : map.FinMap key_cmp Holding → ℕ → Bucket → ℕ → ℕ → ℕ → List ClaimItem
 claims_between holder cell bucket first last after =
-    set.items (set.from_list {R = claim_cmp} (map claim_of (filter (is_listed cell bucket first last after) (map.entries holder))))
+    map.values (map.from_entries {R = place_cmp} (map placed (filter (is_listed cell bucket first last after) (map.entries holder))))
 
 -- the first page of them
 abbrev pub claim_page : LeaseState → ℕ → Bucket → ℕ → ℕ → ℕ → ClaimPage

@@ -1,0 +1,4 @@
+pub mod Search
+pub mod Kept
+pub mod Whole
+pub mod Outcomes

@@ -1,0 +1,55 @@
+-- What the calls that change leases answer, and what stays.
+use Rattle.std.specs.Prelude.{◌≡◌, Bool, true, false, Option, Some, None, Result, Ok, Err}
+use Rattle.claim_types.specs.declared.lease.LeaseId.{LeaseId}
+use Rattle.claim_types.specs.declared.lease.How.{How}
+use Rattle.claim_types.specs.declared.lease.How.TheVariants.{Committed, RolledBack}
+use Rattle.claim_types.specs.declared.operations.Operations.{Operations}
+use Rattle.claim_types.specs.declared.verdict.Verdict.{Verdict}
+use Rattle.claim_types.specs.declared.verdict.Verdict.TheVariants.{Fresh, Again, Refused}
+use Rattle.claim_map.specs.State.{LeaseState}
+use Rattle.claim_map.specs.Step.{opened, rolled_back}
+use Rattle.lease_core.specs.declared.faults.BeginFault.{BeginFault}
+use Rattle.lease_core.specs.declared.faults.BeginFault.TheVariants.{Refused as RefusedFault, Memory as BeginMemory}
+use Rattle.lease_core.specs.declared.faults.CommitFault.{CommitFault}
+use Rattle.lease_core.specs.declared.faults.CommitFault.TheVariants.{Unknown, WasRolledBack}
+use Rattle.lease_core.specs.declared.faults.RollbackFault.{RollbackFault}
+use Rattle.lease_core.specs.declared.faults.RollbackFault.TheVariants.{WasCommitted, Memory as RollbackMemory}
+
+-- a begin answers its verdict; only a fresh one may want memory
+abbrev pub IsBegin : Result Verdict BeginFault → Verdict → Type 0
+IsBegin (Ok Fresh) verdict = verdict ≡ Fresh
+IsBegin (Ok Again) verdict = verdict ≡ Again
+IsBegin (Ok (Refused reason)) verdict = ⊥
+IsBegin (Err (RefusedFault reason)) verdict = verdict ≡ Refused reason
+IsBegin (Err BeginMemory) verdict = verdict ≡ Fresh
+
+-- the lease is opened where the answer is that it is fresh, and nothing changes elsewhere
+abbrev pub after_begin : Result Verdict BeginFault → LeaseState → LeaseId → Operations → LeaseState
+after_begin (Ok Fresh) s lease ops = opened s lease ops
+after_begin (Ok Again) s lease ops = s
+after_begin (Ok (Refused reason)) s lease ops = s
+after_begin (Err fault) s lease ops = s
+
+-- what a commit of a lease that is not open answers, by how it ended
+abbrev pub commit_again : Option How → Result Bool CommitFault
+commit_again None = Err Unknown
+commit_again (Some Committed) = Ok false
+commit_again (Some RolledBack) = Err WasRolledBack
+
+-- what a commit answers, by whether the lease is open and by how it ended
+abbrev pub commit_answer : Option Operations → Option How → Result Bool CommitFault
+commit_answer (Some ops) how = Ok true
+commit_answer None how = commit_again how
+
+-- a rollback is done where the lease has not ended; only one of a lease that was never begun may want memory
+abbrev pub IsRollback : Result Bool RollbackFault → Option Operations → Option How → Type 0
+IsRollback (Ok true) begun how = how ≡ None
+IsRollback (Ok false) begun how = how ≡ Some RolledBack
+IsRollback (Err WasCommitted) begun how = how ≡ Some Committed
+IsRollback (Err RollbackMemory) begun how = (how ≡ None) × (begun ≡ None)
+
+-- the lease is rolled back where the answer is that it was done now, and nothing changes elsewhere
+abbrev pub after_rollback : Result Bool RollbackFault → LeaseState → LeaseId → LeaseState
+after_rollback (Ok true) s lease = rolled_back s lease
+after_rollback (Ok false) s lease = s
+after_rollback (Err fault) s lease = s

@@ -13,7 +13,9 @@
 #![tactic(auto)]
 
 mod lines;
+mod service;
 #[cfg(test)]
 mod tests;
 
 pub use lines::{LINES, LONGEST_LINE_BYTES, LineFault, LineReader};
+pub use service::Service;

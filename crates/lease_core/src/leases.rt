@@ -105,8 +105,9 @@ impl Leases {
 }
 
 impl Leases {
-    // Opens a lease that is not open.
-    fn open(&mut self, id: LeaseId, ops: Operations) -> Result<(), NoMemory>
+    /// Opens a lease that is not open, for a caller that has judged it fresh. It takes room as
+    /// [`Leases::begin`] does.
+    pub fn open(&mut self, id: LeaseId, ops: Operations) -> Result<(), NoMemory>
         requires { map.get self.old.begun id ≡ None }
         ensures ok { OnOk result (self.new ≡ opened self.old id ops) }
         ensures err { OnErr result (self.new ≡ self.old) }

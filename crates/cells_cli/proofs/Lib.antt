@@ -2,3 +2,4 @@ pub mod Cuts
 pub mod Places
 pub mod Refusals
 pub mod Runs
+pub mod Answered

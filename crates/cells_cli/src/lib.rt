@@ -13,9 +13,13 @@
 #![tactic(auto)]
 
 mod lines;
+mod replay;
+mod run;
 mod service;
+mod status;
 #[cfg(test)]
 mod tests;
 
 pub use lines::{LINES, LONGEST_LINE_BYTES, LineFault, LineReader};
 pub use service::Service;
+pub use status::Status;

@@ -1,10 +1,13 @@
 -- What is due to a request that can be written can be written.
-use Rattle.std.proofs.Common.{◌≡◌, ◌⊎◌, inl, inr, ℕ, ◌<◌, ◌≤◌, List, [], length, get_or, Option, Some, None, refl, sym, ap, subst}
+use Rattle.std.proofs.Common.{◌≡◌, ◌⊎◌, inl, inr, ℕ, ◌<◌, ◌≤◌, List, [], length, get_or, Option, Some, None, refl, sym, ap, subst, ◌∙◌}
 use Rattle.std.specs.List.{All}
 use Rattle.std.proofs.lemmas.List.{get_or_past}
 use Rattle.std.proofs.lemmas.Bool.{cases_lt}
 use Rattle.std.specs.Str.{IsUtf8}
 use Rattle.std.specs.FinMap as map
+use Rattle.claim_types.specs.Order.{key_cmp, lease_cmp}
+use Rattle.claim_types.specs.declared.lease.Holding.{Holding}
+use Rattle.claim_types.specs.declared.cell.Range.{Range}
 use Rattle.claim_types.specs.Leases.{IsLease}
 use Rattle.claim_types.specs.Operations.{keys_of}
 use Rattle.claim_types.specs.Writable.{IsWritableKey, AreWritable, IsWritableDenial, IsWritableRequest, IsWritableReply}
@@ -21,7 +24,7 @@ use Rattle.claim_types.specs.declared.message.Request.{Request}
 use Rattle.claim_types.specs.declared.message.Request.TheVariants.{Begin}
 use Rattle.cells_base.proofs.Maps.{inserted}
 use Rattle.claim_map.specs.Registry.{Registry}
-use Rattle.claim_map.specs.State.{ClaimMap, LeaseState, leases_of}
+use Rattle.claim_map.specs.State.{ClaimMap, LeaseState, leases_of, opening}
 use Rattle.claim_map.specs.Verdict.{verdict_of}
 use Rattle.claim_map.specs.Step.{opened, after_any}
 use Rattle.claim_map.specs.Due.{key_at, denial_of, begin_due, due}
@@ -66,3 +69,10 @@ module _ (s : ClaimMap) (now : IsWritable (leases_of s)) (lease : LeaseId) (ops 
 pub due_written : (registry : Registry) (s : ClaimMap) (request : Request) → IsWritable (leases_of s) → IsWritableRequest request → IsWritableReply (due registry s request).reply × IsWritable (leases_of (after_any s (due registry s request).step))
 due_written registry s (Begin lease ops) now is =
     begun s now lease ops is.0 is.1 (verdict_of (leases_of s) s.given lease ops) (names_open IsLease (leases_of s) (λ l o at. (now.begun l o at).0) s.given lease ops)
+
+-- in the beginning there is nothing to be written
+pub opening_written : (given : List Range) → IsWritable (leases_of (opening given))
+opening_written given = record {
+  begun = λ lease ops is. let none : map.get (map.empty {X = Operations} {R = lease_cmp}) lease ≡ None = map.get-empty lease_cmp lease in let e : None ≡ Some ops = sym none ∙ is in absurd cc;
+  holder = λ key h is. let none : map.get (map.empty {X = Holding} {R = key_cmp}) key ≡ None = map.get-empty key_cmp key in let e : None ≡ Some h = sym none ∙ is in absurd cc;
+}

@@ -20,4 +20,5 @@ mod request;
 
 pub use fault::BodyFault;
 pub use member::Member;
+pub use reply::{write_fault, write_reply};
 pub use request::read_request;

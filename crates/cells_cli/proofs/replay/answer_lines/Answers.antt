@@ -1,0 +1,42 @@
+use Rattle.std.proofs.Common.{◌≡◌, ◌+◌, IsTrue, List, ℕ, ◌∷◌, ◌++◌, drop, sym, ◌∙◌, ap, arith}
+use Rattle.std.proofs.lemmas.Result.{err_from_is_err_and}
+use Rattle.cells_cli.specs.Lines.{lines_of, first_refused}
+use Rattle.cells_cli.specs.Service.{map_of, plain_registry}
+use Rattle.cells_cli.proofs.Answered.{dropped, map_more, done_more, stopped, all_done, next_is, counted_is}
+use Rattle.cells_cli.proofs.replay.answer_lines.Goals as goal
+
+pub loop-service-preserved : goal.loop-service-preserved
+loop-service-preserved g c =
+    let start = map_of c.args.service.now in
+    let lines = lines_of (g.S.Source.left c.args.script.now) in
+    let n = c.loop-service.reader.given in
+    let line = c.line.result.now in
+    let rest = lines_of (c.next.new.self.pending ++ g.S.Source.left c.next.new.source) in
+    let counted = counted_is c.in_ok-next.field-0 c.next.new.self.given n c.if-branch.true c.in_ok-next.ensures.counted in
+    let ahead = λ (s : IsTrue g.S.Source.tells). sym (c.loop-service.invariant.ahead s) ∙ next_is c.in_ok-next.field-0 _ _ _ c.if-branch.true (c.in_ok-next.ensures.next s) ∙ ap (λ (l : List ℕ). l ∷ rest) (sym c.line.ensures) in
+    record {
+      done = λ s w. done_more plain_registry start lines n line rest (ahead s) c.next.new.self.given counted (map_of c.loop-service.service) (c.loop-service.invariant.map s) (g.W.Sink.written c.args.out.now) (g.W.Sink.written c.loop-service.out) (c.loop-service.invariant.done s w) (g.W.Sink.written c.answer_line.new.out) (c.in_ok-answer_line.ensures.told w);
+      map = λ s. map_more plain_registry start lines n line rest (ahead s) c.next.new.self.given counted (map_of c.loop-service.service) (c.loop-service.invariant.map s) (map_of c.answer_line.new.service) c.in_ok-answer_line.ensures.map;
+      ahead = λ s. dropped plain_registry start lines n line rest (ahead s) c.next.new.self.given counted;
+      refused = λ s. sym (c.in_ok-next.ensures.passed s) ∙ c.loop-service.invariant.refused s;
+      writable = c.in_ok-answer_line.ensures.writable;
+      read = omega (arith, c.in_ok-next.ensures.later, c.loop-service.invariant.read);
+      write = omega (arith, c.in_ok-answer_line.ensures.later, c.loop-service.invariant.write);
+    }
+
+pub returns-clause-told : goal.returns-clause-told
+returns-clause-told g c s w =
+    all_done plain_registry (map_of c.args.service.now) (lines_of (g.S.Source.left c.args.script.now)) c.loop-service.reader.given _ _ (sym (c.loop-service.invariant.ahead s) ∙ (c.in_ok-next.ensures.end s c.if-branch.false).0) (c.loop-service.invariant.done s w)
+
+pub returns-in_err-answer_line-clause-told : goal.returns-in_err-answer_line-clause-told
+returns-in_err-answer_line-clause-told g c s w =
+    let p = err_from_is_err_and c.from_residual-in_err-answer_line.result c.from_residual-in_err-answer_line.ensures.1 in
+    let start = map_of c.args.service.now in
+    let lines = lines_of (g.S.Source.left c.args.script.now) in
+    let n = c.loop-service.reader.given in
+    let line = c.line.result.now in
+    let rest = lines_of (c.next.new.self.pending ++ g.S.Source.left c.next.new.source) in
+    let counted = counted_is c.in_ok-next.field-0 c.next.new.self.given n c.if-branch.true c.in_ok-next.ensures.counted in
+    let ahead = sym (c.loop-service.invariant.ahead s) ∙ next_is c.in_ok-next.field-0 _ _ _ c.if-branch.true (c.in_ok-next.ensures.next s) ∙ ap (λ (l : List ℕ). l ∷ rest) (sym c.line.ensures) in
+    rw (p.1, p.2) (stopped plain_registry start lines n line rest ahead c.next.new.self.given counted (map_of c.loop-service.service) (c.loop-service.invariant.map s) (g.W.Sink.written c.args.out.now) (g.W.Sink.written c.loop-service.out) (c.loop-service.invariant.done s w) (g.W.Sink.written c.answer_line.new.out)
+        c.in_err-answer_line.field-0.0 c.answer_line.result c.in_err-answer_line.was c.answer_line.ensures.others (c.answer_line.ensures.nothing w) (c.answer_line.ensures.part w))

@@ -1,0 +1,169 @@
+//! The command `replay`: requests as lines of JSON, answered by a service in memory.
+ghost use Rattle.std.specs.Prelude.{◌≡◌, ◌≢◌, ◌+◌, ◌≤◌, ◌<◌, ◌++◌, [], ◌∷◌, ℕ, List, None, Some, IsTrue, true, IfOk, OnOk, OnErr, IsErrOf, Ok, Err, length};
+ghost use Rattle.cells_base.specs.Causes.{Rose};
+ghost use Rattle.cells_edge.specs.Edge.{IsPrefix};
+ghost use Rattle.message_json.specs.Requests.{request_of};
+ghost use Rattle.claim_map.specs.State.{leases_of};
+ghost use Rattle.claim_map.specs.Writable.{IsWritable};
+ghost use Rattle.claim_types.specs.Writable.{IsWritableRequest};
+ghost use Rattle.cells_cli.specs.Lines.{lines_of, first_refused};
+ghost use Rattle.cells_cli.specs.Service.{map_of, plain_opening, plain_registry};
+ghost use Rattle.cells_cli.specs.Replay.{answer_to, map_after, line_answer, after_line, IsAnswered};
+ghost use Rattle.cells_cli.specs.declared.replay.Stop.TheVariants.{Memory, WriteFault};
+
+use crate::lines::{LINES, LineFault, LineReader};
+use crate::{Service, Status};
+use cells_base::{NoMemory, Text};
+use cells_edge::{Sink, SinkFailed, Source, write_all};
+use claim_types::{BODY, Request};
+use message_json::{BodyFault, read_request, write_fault, write_reply};
+use std::alloc::{AllocFailed, Global};
+
+/// Why a replay ended before the end of its input.
+#[derive(Clone, Copy, Debug, PartialEq, Eq)]
+pub enum Stop {
+    /// The input is refused at this line, from 1.
+    Script { line: u64 },
+    ReadFault,
+    WriteFault,
+    Memory,
+}
+
+impl From<NoMemory> for Stop {
+    ghost from_gives = { λ _ s. s ≡ Memory };
+
+    fn from(_: NoMemory) -> Self {
+        Stop::Memory
+    }
+}
+
+impl<T: Drop> From<AllocFailed<T>> for Stop {
+    ghost from_gives = { λ _ s. s ≡ Memory };
+
+    fn from(_: AllocFailed<T>) -> Self {
+        Stop::Memory
+    }
+}
+
+impl From<SinkFailed> for Stop {
+    ghost from_gives = { λ _ s. s ≡ WriteFault };
+
+    fn from(_: SinkFailed) -> Self {
+        Stop::WriteFault
+    }
+}
+
+impl From<LineFault> for Stop {
+    ghost use Rattle.cells_cli.specs.Stop.{stop_of};
+
+    ghost from_gives = { λ e s. s ≡ stop_of e };
+
+    fn from(fault: LineFault) -> Self {
+        match fault {
+            LineFault::TooLong { line } => Stop::Script { line },
+            LineFault::TooMany => Stop::Script { line: LINES + 1 },
+            LineFault::Read => Stop::ReadFault,
+        }
+    }
+}
+
+fn reply_body(alloc: Global, service: &mut Service, request: Request) -> Result<Text, NoMemory>
+    requires map { IsWritable (leases_of (map_of service.old)) }
+    requires request { IsWritableRequest request }
+    ensures body { IfOk result (λ body. body ≡ answer_to plain_registry (map_of service.old) (Ok request)) }
+    ensures map { OnOk result (map_of service.new ≡ map_after plain_registry (map_of service.old) (Ok request)) }
+    ensures writable { OnOk result (IsWritable (leases_of (map_of service.new))) }
+{
+    let reply = service.answer(alloc, request)?;
+    let body = write_reply(alloc, &reply)?;
+    Ok(body)
+}
+
+// The body that answers a line.
+fn answer_body(alloc: Global, service: &mut Service, line: &[u8]) -> Result<Text, NoMemory>
+    requires { IsWritable (leases_of (map_of service.old)) }
+    ensures body { IfOk result (λ body. body ≡ answer_to plain_registry (map_of service.old) (request_of line.now)) }
+    ensures map { OnOk result (map_of service.new ≡ map_after plain_registry (map_of service.old) (request_of line.now)) }
+    ensures writable { OnOk result (IsWritable (leases_of (map_of service.new))) }
+{
+    match read_request(alloc, line) {
+        Ok(request) => reply_body(alloc, service, request),
+        Err(BodyFault::Memory) => Err(NoMemory),
+        Err(fault) => write_fault(alloc, fault),
+    }
+}
+
+// What is written for a line: nothing for an empty one, and else the body and LF.
+fn line_body(alloc: Global, service: &mut Service, line: &[u8]) -> Result<Vec<u8>, NoMemory>
+    requires { IsWritable (leases_of (map_of service.old)) }
+    ensures body { IfOk result (λ body. body.items ≡ line_answer plain_registry (map_of service.old) line.now) }
+    ensures map { OnOk result (map_of service.new ≡ after_line plain_registry (map_of service.old) line.now) }
+    ensures writable { OnOk result (IsWritable (leases_of (map_of service.new))) }
+{
+    if line.is_empty() {
+        return Ok(Vec::new(alloc));
+    }
+    let mut body = answer_body(alloc, service, line)?.into_vec();
+    body.push(b'\n')?;
+    Ok(body)
+}
+
+// Answers a line.
+fn answer_line<W: Sink>(
+    alloc: Global,
+    service: &mut Service,
+    line: &[u8],
+    out: &mut W,
+) -> Result<(), Stop>
+    requires { IsWritable (leases_of (map_of service.old)) }
+    ensures told { IsTrue W.tells → OnOk result (W.written out.new ≡ W.written out.old ++ line_answer plain_registry (map_of service.old) line.now) }
+    ensures map { OnOk result (map_of service.new ≡ after_line plain_registry (map_of service.old) line.now) }
+    ensures writable { OnOk result (IsWritable (leases_of (map_of service.new))) }
+    ensures nothing { IsTrue W.tells → result ≡ Err Stop.Memory → W.written out.new ≡ W.written out.old }
+    ensures part { IsTrue W.tells → result ≡ Err Stop.WriteFault → (front : List ℕ) × IsPrefix front (line_answer plain_registry (map_of service.old) line.now) × (W.written out.new ≡ W.written out.old ++ front) }
+    ensures cause { result ≡ Err Stop.WriteFault → Rose (W.faults out.old) (W.faults out.new) }
+    ensures later { W.faults out.old ≤ W.faults out.new }
+    ensures others { (result ≢ Err Stop.ReadFault) × ((k : ℕ) → result ≢ Err (Stop.Script k)) }
+{
+    let body = line_body(alloc, service, line)?;
+    write_all(out, &body)?;
+    Ok(())
+}
+
+// Answers each line of the script in turn.
+fn answer_lines<S: Source, W: Sink>(
+    alloc: Global,
+    service: &mut Service,
+    reader: &mut LineReader,
+    script: &mut S,
+    out: &mut W,
+) -> Result<(), Stop>
+    requires writable { IsWritable (leases_of (map_of service.old)) }
+    requires fresh { (reader.old.given ≡ 0) × (reader.old.pending ≡ []) }
+    ensures told { IsTrue S.tells → IsTrue W.tells → IsAnswered plain_registry (map_of service.old) (lines_of (S.left script.old)) result (W.written out.old) (W.written out.new) }
+    ensures whole { IsTrue S.tells → OnOk result ((S.left script.new ≡ []) × (first_refused reader.old.limit 0 (lines_of (S.left script.old)) ≡ None)) }
+    ensures script { IsTrue S.tells → (k : ℕ) → result ≡ Err (Stop.Script k) → first_refused reader.old.limit 0 (lines_of (S.left script.old)) ≡ Some k }
+    ensures read { result ≡ Err Stop.ReadFault → Rose (S.faults script.old) (S.faults script.new) }
+    ensures write { result ≡ Err Stop.WriteFault → Rose (W.faults out.old) (W.faults out.new) }
+    ensures later { W.faults out.old ≤ W.faults out.new }
+{
+    while reader.next(script)? {
+        answer_line(alloc, service, reader.line(), out)?;
+    }
+    Ok(())
+}
+
+/// Answers the lines of the script as the command `replay` without words does, and says why it
+/// ended before the script's end, if it did.
+pub fn replay<S: Source, W: Sink>(alloc: Global, script: &mut S, out: &mut W) -> Result<(), Stop>
+    ensures told { IsTrue S.tells → IsTrue W.tells → IsAnswered plain_registry plain_opening (lines_of (S.left script.old)) result (W.written out.old) (W.written out.new) }
+    ensures whole { IsTrue S.tells → OnOk result ((S.left script.new ≡ []) × (first_refused BODY 0 (lines_of (S.left script.old)) ≡ None)) }
+    ensures script { IsTrue S.tells → (k : ℕ) → result ≡ Err (Stop.Script k) → first_refused BODY 0 (lines_of (S.left script.old)) ≡ Some k }
+    ensures read { result ≡ Err Stop.ReadFault → Rose (S.faults script.old) (S.faults script.new) }
+    ensures write { result ≡ Err Stop.WriteFault → Rose (W.faults out.old) (W.faults out.new) }
+    ensures later { W.faults out.old ≤ W.faults out.new }
+{
+    let mut service = Service::plain(alloc)?;
+    let mut reader = LineReader::new(alloc, BODY as usize)?;
+    answer_lines(alloc, &mut service, &mut reader, script, out)
+}

@@ -60,7 +60,7 @@ are_distinct-creates [] others = refl
 are_distinct-creates (create ∷ creates) others =
     let p : ClaimKey → Bool = λ other. key_eq create.key other in
     let among : list_any p (map (λ c. c.key) creates ++ others) ≡ (list_any (λ c. p c.key) creates || list_any p others) =
-        list_any-append p (map (λ c. c.key) creates) others ∙ ap (λ (b : Bool). b || list_any p others) (any-map p (λ (c : Create). c.key) creates) in
+    list_any-append p (map (λ c. c.key) creates) others ∙ ap (λ (b : Bool). b || list_any p others) (any-map p (λ (c : Create). c.key) creates) in
     regroup (list_any (λ c. p c.key) creates) (list_any p others) (are_creates_distinct creates others) (are_distinct others)
     ∙ ap (λ (b : Bool). not b && (are_creates_distinct creates others && are_distinct others)) (sym among)
     ∙ ap (λ (b : Bool). not (list_any p (map (λ c. c.key) creates ++ others)) && b) (are_distinct-creates creates others)

@@ -65,14 +65,14 @@ service-IsPart = record {
 -- ---- entries of a cell
 
 cell_entry_again : (entry : CellEntry) (rest : List ℕ) → IsCellEntry entry → reading.cell_entry_at (spell.cell_entry_bytes entry ++ rest) ≡ Some (entry, rest)
-unfolding reading.cell_entry_at reading.opened_at reading.recorded_at reading.row_gone_at reading.got_at
+unfolding reading.cell_entry_at reading.epoch_entry_at reading.recorded_at reading.row_gone_at reading.got_at
 cell_entry_again (Epoch epoch) rest is = again (λ epoch. Epoch epoch) epoch-IsPart epoch rest is
 cell_entry_again (Recorded lease change ops) rest is = again (λ found. Recorded found.0 found.1.0 found.1.1) (both-IsPart lease-IsPart (both-IsPart change-IsPart operations-IsPart)) (lease, (change, ops)) rest (is.0, (is.1, is.2))
 cell_entry_again (RowGone lease) rest is = again (λ lease. RowGone lease) lease-IsPart lease rest is
 cell_entry_again (Got number low high) rest is = again (λ found. Got found.0 found.1.0 found.1.1) (both-IsPart range_number-IsPart ends-IsPart) (number, (low, high)) rest (is.0, is.1)
 
 cell_entry-IsPart : IsPart spell.cell_entry_bytes IsCellEntry reading.cell_entry_at
-unfolding reading.cell_entry_at reading.opened_at reading.recorded_at reading.row_gone_at reading.got_at
+unfolding reading.cell_entry_at reading.epoch_entry_at reading.recorded_at reading.row_gone_at reading.got_at
 cell_entry-IsPart = record {
   takes = tagged_takes
       (coded-Arms (mapped-Arm 17 _ epoch-IsPart (λ epoch. refl) (λ epoch fits. fits))
@@ -97,6 +97,10 @@ module _ {A : Type 0} {f : A → List ℕ} {F : A → Type 0} {part : Part A} (p
       let same : bytes ≡ f x.0.0 = t.0.parts ∙ ap (λ (rest : List ℕ). f x.0.0 ++ rest) ends ∙ append-nil (f x.0.0) in
       subst (λ (b : A). F b × (f b ≡ bytes)) is.1 (t.1, sym same)
 
+  -- what is spelled so is what was read
+  whole_only : (bytes : List ℕ) (o : Option A) → whole part bytes ≡ o → (a : A) → F a → f a ≡ bytes → o ≡ Some a
+  whole_only bytes o e a fits same = sym e ∙ ap (whole part) (sym same) ∙ whole_again a fits
+
   -- nothing is read only where nothing is spelled so
   whole_none : (bytes : List ℕ) → whole part bytes ≡ None → (a : A) → F a → f a ≡ bytes → ⊥
   whole_none bytes e a fits same = let both : Some a ≡ None = sym (whole_again a fits) ∙ ap (whole part) same ∙ e in cc
@@ -108,6 +112,9 @@ module _ {A : Type 0} {f : A → List ℕ} {F : A → Type 0} {part : Part A} (p
 pub service_found : (bytes : List ℕ) (entry : ServiceEntry) → IsBytes bytes → whole reading.service_entry_at bytes ≡ Some entry → IsServiceEntry entry × (spell.service_entry_bytes entry ≡ bytes)
 service_found = whole_takes service-IsPart
 
+pub service_only : (bytes : List ℕ) (o : Option ServiceEntry) → whole reading.service_entry_at bytes ≡ o → (entry : ServiceEntry) → IsServiceEntry entry → spell.service_entry_bytes entry ≡ bytes → o ≡ Some entry
+service_only = whole_only service-IsPart
+
 pub service_none : (bytes : List ℕ) → whole reading.service_entry_at bytes ≡ None → (entry : ServiceEntry) → IsServiceEntry entry → spell.service_entry_bytes entry ≡ bytes → ⊥
 service_none = whole_none service-IsPart
 
@@ -116,6 +123,9 @@ service_one = whole_one service-IsPart
 
 pub cell_found : (bytes : List ℕ) (entry : CellEntry) → IsBytes bytes → whole reading.cell_entry_at bytes ≡ Some entry → IsCellEntry entry × (spell.cell_entry_bytes entry ≡ bytes)
 cell_found = whole_takes cell_entry-IsPart
+
+pub cell_only : (bytes : List ℕ) (o : Option CellEntry) → whole reading.cell_entry_at bytes ≡ o → (entry : CellEntry) → IsCellEntry entry → spell.cell_entry_bytes entry ≡ bytes → o ≡ Some entry
+cell_only = whole_only cell_entry-IsPart
 
 pub cell_none : (bytes : List ℕ) → whole reading.cell_entry_at bytes ≡ None → (entry : CellEntry) → IsCellEntry entry → spell.cell_entry_bytes entry ≡ bytes → ⊥
 cell_none = whole_none cell_entry-IsPart

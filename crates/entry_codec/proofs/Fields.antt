@@ -238,19 +238,20 @@ Decides-well_formed ops =
     let few = leb (operation_count ops) OPERATIONS in
     let creates = reading.are_creates_distinct ops.creates ops.destroys in
     let destroys = reading.are_distinct ops.destroys in
-    let joined = are_distinct-creates ops.creates ops.destroys in
-    (λ h.
-        let last = and_split (some && few && creates) destroys h in
-        let middle = and_split (some && few) creates last.0 in
-        let first = and_split some few middle.0 in
-        record {
-          some = leb-true _ _ first.0;
-          not_too_many = leb-true _ _ first.1;
-          distinct = (Decides-distinct (keys_of ops)).0 (sym joined ∙ both_true middle.1 last.1);
-        },
-    λ is.
-        let both = and_split creates destroys (joined ∙ (Decides-distinct (keys_of ops)).1 is.distinct) in
-        both_true (both_true (both_true (le-leb _ _ is.some) (le-leb _ _ is.not_too_many)) both.0) both.1)
+    let joined = are_distinct-creates ops.creates ops.destroys in (
+      λ h.
+          let last = and_split (some && few && creates) destroys h in
+          let middle = and_split (some && few) creates last.0 in
+          let first = and_split some few middle.0 in
+          record {
+            some = leb-true _ _ first.0;
+            not_too_many = leb-true _ _ first.1;
+            distinct = (Decides-distinct (keys_of ops)).0 (sym joined ∙ both_true middle.1 last.1);
+          },
+      λ is.
+          let both = and_split creates destroys (joined ∙ (Decides-distinct (keys_of ops)).1 is.distinct) in
+          both_true (both_true (both_true (le-leb _ _ is.some) (le-leb _ _ is.not_too_many)) both.0) both.1,
+    )
 
 pub operations-IsPart : IsPart spell.operations_bytes AreOperations reading.operations_at
 unfolding reading.operations_at
@@ -259,7 +260,10 @@ operations-IsPart = converted-IsPart (both-IsPart (list-IsPart create-IsPart) (l
       let made : Operations = record { creates = found.0; destroys = found.1 } in
       let is = cond_some (are_well_formed made) made ops e in
       (ap spell.operations_bytes is.1, subst AreOperations is.1 (record { well_formed = (Decides-well_formed made).0 is.0; creates = fits.0.1; destroys = fits.1.1 }));
-  forth = λ ops is.
-      ((ops.creates, ops.destroys), ap (λ (b : Bool). cond b (Some ops) None) ((Decides-well_formed ops).1 is.well_formed),
-      ((omega (arith, is.well_formed.not_too_many), is.creates), (omega (arith, is.well_formed.not_too_many), is.destroys)), refl);
+  forth = λ ops is. (
+    (ops.creates, ops.destroys),
+    ap (λ (b : Bool). cond b (Some ops) None) ((Decides-well_formed ops).1 is.well_formed),
+    ((omega (arith, is.well_formed.not_too_many), is.creates), (omega (arith, is.well_formed.not_too_many), is.destroys)),
+    refl,
+  );
 })

@@ -17,22 +17,23 @@ lease_in-bytes : (lease : LeaseId) → IsLease lease → lease_in (lease_bytes l
 lease_in-bytes lease is = numbers lease is (lease_bytes lease) refl _ _ _ _ refl refl refl refl
 
 Decides-lease : (lease : LeaseId) → Decides (is_lease lease) (IsLease lease)
-Decides-lease lease =
-    (λ h.
-        let five = and_split (leb 1 lease.cell && leb lease.cell GREATEST_CELL && leb 1 lease.epoch && ltb lease.epoch (2 ^ 32) && leb 1 lease.attempt) (leb lease.attempt GREATEST_ATTEMPT) h in
-        let four = and_split (leb 1 lease.cell && leb lease.cell GREATEST_CELL && leb 1 lease.epoch && ltb lease.epoch (2 ^ 32)) (leb 1 lease.attempt) five.0 in
-        let three = and_split (leb 1 lease.cell && leb lease.cell GREATEST_CELL && leb 1 lease.epoch) (ltb lease.epoch (2 ^ 32)) four.0 in
-        let two = and_split (leb 1 lease.cell && leb lease.cell GREATEST_CELL) (leb 1 lease.epoch) three.0 in
-        let one = and_split (leb 1 lease.cell) (leb lease.cell GREATEST_CELL) two.0 in
-        record {
-          cell_least = leb-true _ _ one.0;
-          cell_most = leb-true _ _ one.1;
-          epoch_least = leb-true _ _ two.1;
-          epoch_most = ltb-true _ _ three.1;
-          attempt_least = leb-true _ _ four.1;
-          attempt_most = leb-true _ _ five.1;
-        },
-    λ is. both_true (both_true (both_true (both_true (both_true (le-leb _ _ is.cell_least) (le-leb _ _ is.cell_most)) (le-leb _ _ is.epoch_least)) (lt-ltb _ _ is.epoch_most)) (le-leb _ _ is.attempt_least)) (le-leb _ _ is.attempt_most))
+Decides-lease lease = (
+  λ h.
+      let five = and_split (leb 1 lease.cell && leb lease.cell GREATEST_CELL && leb 1 lease.epoch && ltb lease.epoch (2 ^ 32) && leb 1 lease.attempt) (leb lease.attempt GREATEST_ATTEMPT) h in
+      let four = and_split (leb 1 lease.cell && leb lease.cell GREATEST_CELL && leb 1 lease.epoch && ltb lease.epoch (2 ^ 32)) (leb 1 lease.attempt) five.0 in
+      let three = and_split (leb 1 lease.cell && leb lease.cell GREATEST_CELL && leb 1 lease.epoch) (ltb lease.epoch (2 ^ 32)) four.0 in
+      let two = and_split (leb 1 lease.cell && leb lease.cell GREATEST_CELL) (leb 1 lease.epoch) three.0 in
+      let one = and_split (leb 1 lease.cell) (leb lease.cell GREATEST_CELL) two.0 in
+      record {
+        cell_least = leb-true _ _ one.0;
+        cell_most = leb-true _ _ one.1;
+        epoch_least = leb-true _ _ two.1;
+        epoch_most = ltb-true _ _ three.1;
+        attempt_least = leb-true _ _ four.1;
+        attempt_most = leb-true _ _ five.1;
+      },
+  λ is. both_true (both_true (both_true (both_true (both_true (le-leb _ _ is.cell_least) (le-leb _ _ is.cell_most)) (le-leb _ _ is.epoch_least)) (lt-ltb _ _ is.epoch_most)) (le-leb _ _ is.attempt_least)) (le-leb _ _ is.attempt_most),
+)
 
 -- what is found has these bytes
 pub lease_found : (bytes : List ℕ) (lease : LeaseId) → lease_of bytes ≡ Some lease → IsLease lease × (lease_bytes lease ≡ bytes)

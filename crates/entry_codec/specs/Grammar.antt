@@ -32,6 +32,7 @@ pub record IsSubject (subject : Subject) : Type 0 where
 pub record IsOrigin (origin : Origin) : Type 0 where
   pub row : IsIdentifier origin.row
 
+-- a create has each of these
 pub record IsCreate (create : Create) : Type 0 where
   pub key : IsKey create.key
   pub subject : IsSubject create.subject
@@ -60,11 +61,13 @@ IsRangeNumber number = (1 ≤ number) × (number < 2 ^ 64)
 abbrev pub IsEpoch : ℕ → Type 0
 IsEpoch epoch = (1 ≤ epoch) × (epoch < 2 ^ 32)
 
+-- what a change may say
 abbrev pub IsChange : Change → Type 0
 IsChange (change.Create kind parent name) = IsParent parent × IsName name
 IsChange (change.Rename id name) = IsIdentifier id × IsName name
 IsChange (change.Remove id) = IsIdentifier id
 
+-- a range of a cell
 pub record IsRange (range : Range) : Type 0 where
   pub cell : IsCell range.cell
   pub number : IsRangeNumber range.number

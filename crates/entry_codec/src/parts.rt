@@ -1,16 +1,21 @@
-//! The parts that an entry is made of, each read from the front of the bytes.
+//! The parts that an entry is made of. Each call reads one from the front of the bytes, and gives
+//! it with the bytes behind it.
 ghost use Rattle.std.specs.Prelude.{◌≡◌, length};
 ghost use Rattle.std.specs.Int.{w16, w32, w64};
 ghost use Rattle.entry_codec.specs.Reading as reading;
 ghost use Rattle.entry_codec.specs.Reading.{Gives};
 
+use crate::codes::{COMMITTED, ROLLED_BACK};
 use crate::unread::Unread;
 use claim_types::{
-    Bucket, ClaimKey, GREATEST_CELL, GREATEST_IDENTIFIER, How, KeyFault, Kind, LeaseId, Origin, Range, Subject, Text,
+    Bucket, ClaimKey, GREATEST_CELL, GREATEST_IDENTIFIER, How, KeyFault, Kind, LeaseId, Origin,
+    Range, Subject, Text,
 };
 use std::alloc::Global;
-use crate::codes::{COMMITTED, ROLLED_BACK};
 use uuid::Uuid;
+
+// The bytes of a lease, which are those of its UUID.
+const LEASE_BYTES: usize = 16;
 
 pub fn byte_at(bytes: &[u8]) -> Result<(u8, &[u8]), Unread>
     ensures { Gives (λ x. (x.0, x.1.now)) result (reading.byte_at bytes.now) }
@@ -64,7 +69,9 @@ fn u64_at(bytes: &[u8]) -> Result<(u64, &[u8]), Unread>
         return Err(Unread::OutsideGrammar);
     }
     let (front, rest) = bytes.split_at(8);
-    let number = u64::from_be_bytes([front[0], front[1], front[2], front[3], front[4], front[5], front[6], front[7]]);
+    let number = u64::from_be_bytes([
+        front[0], front[1], front[2], front[3], front[4], front[5], front[6], front[7],
+    ]);
     Ok((number, rest))
 }
 
@@ -188,6 +195,7 @@ pub fn how_at(bytes: &[u8]) -> Result<(How, &[u8]), Unread>
     }
 }
 
+// The lease that sixteen bytes name.
 fn lease_in(bytes: &[u8]) -> Option<LeaseId>
     requires { length bytes.now ≡ 16 }
     ensures { result ≡ reading.lease_of bytes.now }
@@ -202,16 +210,17 @@ fn lease_in(bytes: &[u8]) -> Option<LeaseId>
 pub fn lease_at(bytes: &[u8]) -> Result<(LeaseId, &[u8]), Unread>
     ensures { Gives (λ x. (x.0, x.1.now)) result (reading.lease_at bytes.now) }
 {
-    if bytes.len() < 16 {
+    if bytes.len() < LEASE_BYTES {
         return Err(Unread::OutsideGrammar);
     }
-    let (front, rest) = bytes.split_at(16);
+    let (front, rest) = bytes.split_at(LEASE_BYTES);
     match lease_in(front) {
         Some(lease) => Ok((lease, rest)),
         None => Err(Unread::OutsideGrammar),
     }
 }
 
+// The key that a bucket reads from a value, if reading leaves the value as it is.
 #[tactic(auto, unfolding(crate::specs::Reading::key_from))]
 fn key_from(alloc: Global, bucket: Bucket, value: &[u8]) -> Result<ClaimKey, Unread>
     ensures { Gives (λ key. key) result (reading.key_from (bucket, value.now)) }
@@ -273,6 +282,13 @@ pub fn range_at(bytes: &[u8]) -> Result<(Range, &[u8]), Unread>
     let (cell, rest) = cell_at(bytes)?;
     let (number, rest) = range_number_at(rest)?;
     let ((low, high), rest) = ends_at(rest)?;
-    Ok((Range { cell, number, low, high }, rest))
+    Ok((
+        Range {
+            cell,
+            number,
+            low,
+            high,
+        },
+        rest,
+    ))
 }
-

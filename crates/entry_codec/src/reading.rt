@@ -1,5 +1,5 @@
 //! Whole entries, read from a body.
-ghost use Rattle.std.specs.Prelude.{◌≡◌, IfOk, IfSome, IfNone};
+ghost use Rattle.std.specs.Prelude.{◌≡◌, IfOk, IfSome, IfNone, Some};
 ghost use Rattle.claim_types.specs.declared.entry.CellEntry.{CellEntry};
 ghost use Rattle.claim_types.specs.declared.entry.ServiceEntry.{ServiceEntry};
 ghost use Rattle.entry_codec.specs.Grammar.{IsServiceEntry, IsCellEntry};
@@ -96,9 +96,9 @@ fn service_entry_at(alloc: Global, bytes: &[u8]) -> Result<(ServiceEntry, &[u8])
     }
 }
 
-#[tactic(auto, unfolding(crate::specs::Reading::opened_at))]
-fn opened_at(bytes: &[u8]) -> Result<(CellEntry, &[u8]), Unread>
-    ensures { Gives (λ x. (x.0, x.1.now)) result (reading.opened_at bytes.now) }
+#[tactic(auto, unfolding(crate::specs::Reading::epoch_entry_at))]
+fn epoch_entry_at(bytes: &[u8]) -> Result<(CellEntry, &[u8]), Unread>
+    ensures { Gives (λ x. (x.0, x.1.now)) result (reading.epoch_entry_at bytes.now) }
 {
     let (epoch, rest) = epoch_at(bytes)?;
     Ok((CellEntry::Epoch { epoch }, rest))
@@ -137,7 +137,7 @@ fn cell_entry_at(alloc: Global, bytes: &[u8]) -> Result<(CellEntry, &[u8]), Unre
 {
     let (first, rest) = byte_at(bytes)?;
     match first {
-        EPOCH => opened_at(rest),
+        EPOCH => epoch_entry_at(rest),
         RECORDED => recorded_at(alloc, rest),
         ROW_GONE => row_gone_at(rest),
         GOT => got_at(rest),
@@ -160,6 +160,7 @@ fn whole_service_entry(alloc: Global, body: &[u8]) -> Result<ServiceEntry, Unrea
 /// in `specs/Grammar`, the form in `specs/Spelling`.
 pub fn read_service(alloc: Global, body: &[u8]) -> Result<Option<ServiceEntry>, NoMemory>
     ensures some { IfOk result (λ found. IfSome found (λ entry. IsServiceEntry entry × (service_entry_bytes entry ≡ body.now))) }
+    ensures only { (entry : ServiceEntry) → IsServiceEntry entry → service_entry_bytes entry ≡ body.now → IfOk result (λ found. found ≡ Some entry) }
     ensures none { IfOk result (λ found. IfNone found ((entry : ServiceEntry) → IsServiceEntry entry → service_entry_bytes entry ≡ body.now → ⊥)) }
 {
     match whole_service_entry(alloc, body) {
@@ -184,6 +185,7 @@ fn whole_cell_entry(alloc: Global, body: &[u8]) -> Result<CellEntry, Unread>
 /// in `specs/Grammar`, the form in `specs/Spelling`.
 pub fn read_cell(alloc: Global, body: &[u8]) -> Result<Option<CellEntry>, NoMemory>
     ensures some { IfOk result (λ found. IfSome found (λ entry. IsCellEntry entry × (cell_entry_bytes entry ≡ body.now))) }
+    ensures only { (entry : CellEntry) → IsCellEntry entry → cell_entry_bytes entry ≡ body.now → IfOk result (λ found. found ≡ Some entry) }
     ensures none { IfOk result (λ found. IfNone found ((entry : CellEntry) → IsCellEntry entry → cell_entry_bytes entry ≡ body.now → ⊥)) }
 {
     match whole_cell_entry(alloc, body) {
@@ -196,11 +198,9 @@ pub fn read_cell(alloc: Global, body: &[u8]) -> Result<Option<CellEntry>, NoMemo
 /// No body is the form of two entries of the service's journal.
 pub fn one_service_entry()
     ensures { (a b : ServiceEntry) → IsServiceEntry a → IsServiceEntry b → service_entry_bytes a ≡ service_entry_bytes b → a ≡ b }
-{
-}
+{}
 
 /// No body is the form of two entries of a cell's journal.
 pub fn one_cell_entry()
     ensures { (a b : CellEntry) → IsCellEntry a → IsCellEntry b → cell_entry_bytes a ≡ cell_entry_bytes b → a ≡ b }
-{
-}
+{}

@@ -2,10 +2,10 @@ ghost use Rattle.std.specs.Prelude.{◌≡◌};
 ghost use Rattle.entry_codec.specs.declared.unread.Unread.TheVariants.{Memory};
 
 use claim_types::NoMemory;
-use std::alloc::{AllocError, AllocFailed};
+use std::alloc::AllocFailed;
 
 // Why nothing was read.
-#[derive(Clone, Copy, Debug, PartialEq, Eq)]
+#[derive(Drop)]
 pub enum Unread {
     OutsideGrammar,
     Memory,
@@ -15,14 +15,6 @@ impl From<NoMemory> for Unread {
     ghost from_gives = { λ _ e. e ≡ Memory };
 
     fn from(_: NoMemory) -> Self {
-        Unread::Memory
-    }
-}
-
-impl From<AllocError> for Unread {
-    ghost from_gives = { λ _ e. e ≡ Memory };
-
-    fn from(_: AllocError) -> Self {
         Unread::Memory
     }
 }

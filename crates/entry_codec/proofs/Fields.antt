@@ -1,8 +1,7 @@
 -- The parts of an entry, each read as it is spelled.
-use Rattle.std.proofs.Common.{◌≡◌, ℕ, ◌+◌, ◌^◌, ◌<◌, ◌≤◌, Bool, true, false, ◌&&◌, cond, eqb, leb, ltb, List, [], ◌∷◌, ◌++◌, length, map, Option, Some, None, Result, Ok, Err, refl, sym, ap, subst, ◌∙◌, arith, lit<}
+use Rattle.std.proofs.Common.{◌≡◌, ℕ, ◌^◌, ◌<◌, ◌≤◌, Bool, true, false, ◌&&◌, cond, eqb, leb, ltb, List, [], ◌∷◌, length, map, Option, Some, None, Result, Ok, Err, refl, sym, ap, subst, ◌∙◌, arith, lit<}
 use Rattle.std.specs.Int.{Width, w16, w32, w64, to_be_bytes}
 use Rattle.std.specs.Bool.{Decides}
-use Rattle.std.specs.List.{AllByRecursion}
 use Rattle.std.specs.Str.{bytes_eq}
 use Rattle.std.specs.Cmp.Derive.{both_true}
 use Rattle.std.specs.Cmp.Lexicographic.{bytes_decides}
@@ -16,7 +15,6 @@ use Rattle.std.specs.Char.{to_ascii_lowercase}
 use Rattle.std.specs.Prelude.{position, not}
 use Rattle.claim_types.specs.declared.key.KeyFault.TheVariants.{Empty, TooLong, Reserved}
 use Rattle.claim_types.specs.Leases.{IsLease, lease_bytes}
-use Rattle.claim_types.specs.Numbers.{numbered_bucket, numbered_kind}
 use Rattle.claim_types.specs.Operations.{AreWellFormed, keys_of, operation_count}
 use Rattle.claim_types.specs.Order.{bucket_number, kind_number}
 use Rattle.claim_types.specs.declared.key.Bucket.{Bucket}
@@ -24,7 +22,6 @@ use Rattle.claim_types.specs.declared.key.ClaimKey.{ClaimKey}
 use Rattle.claim_types.specs.declared.key.KeyFault.{KeyFault}
 use Rattle.claim_types.specs.declared.lease.How.{How}
 use Rattle.claim_types.specs.declared.lease.How.TheVariants.{Committed, RolledBack}
-use Rattle.claim_types.specs.declared.lease.LeaseId.{LeaseId}
 use Rattle.claim_types.specs.declared.limits.TheConstants.{GREATEST_IDENTIFIER, GREATEST_CELL, OPERATIONS}
 use Rattle.claim_types.specs.declared.operations.Create.{Create}
 use Rattle.claim_types.specs.declared.operations.Operations.{Operations}
@@ -33,12 +30,12 @@ use Rattle.claim_types.specs.declared.operations.Subject.{Subject}
 use Rattle.claim_types.specs.declared.record.Kind.{Kind}
 use Rattle.claim_types.specs.declared.record.Kind.TheVariants.{Organization, Group, Project, User, Key, Address, Domain}
 use Rattle.entry_codec.specs.Spelling as spell
-use Rattle.entry_codec.specs.Grammar.{IsKey, IsSubject, IsOrigin, IsCreate, AreOperations, IsName, IsParent, IsRangeNumber, IsEpoch, IsRange}
+use Rattle.entry_codec.specs.Grammar.{IsKey, IsSubject, IsOrigin, IsCreate, AreOperations, IsName, IsParent, IsRangeNumber, IsEpoch}
 use Rattle.entry_codec.specs.Reading as reading
 use Rattle.entry_codec.specs.Reading.{within, from_one, in_order, unchanged, key_from, subject_kind, numbered_how, are_well_formed, well_formed, named}
 use Rattle.entry_codec.proofs.Lease.{lease_found, lease_again}
 use Rattle.entry_codec.proofs.Distinct.{Decides-distinct, are_distinct-creates}
-use Rattle.entry_codec.proofs.Laws.{IsPart, Converts, IsWide, wide16, wide32, wide64, byte-IsPart, bytes-IsPart, number-IsPart, text-IsPart, both-IsPart, converted-IsPart, mapped-IsPart, list-IsPart, test-Converts}
+use Rattle.entry_codec.proofs.Laws.{IsPart, Converts, wide16, wide32, wide64, byte-IsPart, bytes-IsPart, number-IsPart, text-IsPart, both-IsPart, converted-IsPart, mapped-IsPart, list-IsPart, test-Converts}
 
 -- ---- numbers
 

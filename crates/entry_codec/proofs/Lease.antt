@@ -1,5 +1,5 @@
 -- The lease that sixteen bytes name.
-use Rattle.std.proofs.Common.{◌≡◌, ℕ, ◌^◌, ◌<◌, ◌≤◌, Bool, true, false, ◌&&◌, cond, List, Option, Some, None, IfSome, IfNone, refl, sym, ap, subst, ◌∙◌, arith, leb, ltb}
+use Rattle.std.proofs.Common.{◌≡◌, ℕ, ◌^◌, Bool, true, ◌&&◌, cond, List, Option, Some, None, IfSome, IfNone, refl, sym, ap, subst, ◌∙◌, leb, ltb}
 use Rattle.std.specs.Bool.{Decides}
 use Rattle.std.specs.Str.{bytes_eq}
 use Rattle.std.specs.Cmp.Derive.{both_true}

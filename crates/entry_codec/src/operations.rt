@@ -29,7 +29,7 @@ fn create_at(alloc: Global, bytes: &[u8]) -> Result<(Create, &[u8]), Unread>
 fn creates_of(alloc: Global, count: u8, bytes: &[u8]) -> Result<(Vec<Create>, &[u8]), Unread>
     ensures { Gives (λ x. (x.0.items, x.1.now)) result (reading.repeated reading.create_at count bytes.now) }
 {
-    let mut creates = Vec::new(alloc);
+    let mut creates = Vec::with_capacity(alloc, count as usize)?;
     let mut rest = bytes;
     for _ in 0..count {
         let (create, after) = create_at(alloc, rest)?;
@@ -42,7 +42,7 @@ fn creates_of(alloc: Global, count: u8, bytes: &[u8]) -> Result<(Vec<Create>, &[
 fn keys_of(alloc: Global, count: u8, bytes: &[u8]) -> Result<(Vec<ClaimKey>, &[u8]), Unread>
     ensures { Gives (λ x. (x.0.items, x.1.now)) result (reading.repeated reading.key_at count bytes.now) }
 {
-    let mut keys = Vec::new(alloc);
+    let mut keys = Vec::with_capacity(alloc, count as usize)?;
     let mut rest = bytes;
     for _ in 0..count {
         let (key, after) = key_at(alloc, rest)?;

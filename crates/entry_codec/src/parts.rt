@@ -17,6 +17,7 @@ use uuid::Uuid;
 // The bytes of a lease, which are those of its UUID.
 const LEASE_BYTES: usize = 16;
 
+/// A byte.
 pub fn byte_at(bytes: &[u8]) -> Result<(u8, &[u8]), Unread>
     ensures { Gives (λ x. (x.0, x.1.now)) result (reading.byte_at bytes.now) }
 {
@@ -83,6 +84,7 @@ fn text_at(bytes: &[u8]) -> Result<(&[u8], &[u8]), Unread>
     bytes_at(count as usize, rest)
 }
 
+/// The identifier of a record, in 8 bytes.
 #[tactic(auto, unfolding(crate::specs::Reading::identifier_at))]
 pub fn identifier_at(bytes: &[u8]) -> Result<(u64, &[u8]), Unread>
     ensures { Gives (λ x. (x.0, x.1.now)) result (reading.identifier_at bytes.now) }
@@ -94,6 +96,7 @@ pub fn identifier_at(bytes: &[u8]) -> Result<(u64, &[u8]), Unread>
     Err(Unread::OutsideGrammar)
 }
 
+/// An identifier or 0, in 8 bytes.
 #[tactic(auto, unfolding(crate::specs::Reading::parent_at))]
 pub fn parent_at(bytes: &[u8]) -> Result<(u64, &[u8]), Unread>
     ensures { Gives (λ x. (x.0, x.1.now)) result (reading.parent_at bytes.now) }
@@ -105,6 +108,7 @@ pub fn parent_at(bytes: &[u8]) -> Result<(u64, &[u8]), Unread>
     Err(Unread::OutsideGrammar)
 }
 
+/// The number of a cell, in 2 bytes.
 #[tactic(auto, unfolding(crate::specs::Reading::cell_at))]
 pub fn cell_at(bytes: &[u8]) -> Result<(u16, &[u8]), Unread>
     ensures { Gives (λ x. (x.0, x.1.now)) result (reading.cell_at bytes.now) }
@@ -116,6 +120,7 @@ pub fn cell_at(bytes: &[u8]) -> Result<(u16, &[u8]), Unread>
     Err(Unread::OutsideGrammar)
 }
 
+/// The number of a range, from 1, in 8 bytes.
 #[tactic(auto, unfolding(crate::specs::Reading::range_number_at))]
 pub fn range_number_at(bytes: &[u8]) -> Result<(u64, &[u8]), Unread>
     ensures { Gives (λ x. (x.0, x.1.now)) result (reading.range_number_at bytes.now) }
@@ -127,6 +132,7 @@ pub fn range_number_at(bytes: &[u8]) -> Result<(u64, &[u8]), Unread>
     Err(Unread::OutsideGrammar)
 }
 
+/// An epoch, from 1, in 4 bytes.
 #[tactic(auto, unfolding(crate::specs::Reading::epoch_at))]
 pub fn epoch_at(bytes: &[u8]) -> Result<(u32, &[u8]), Unread>
     ensures { Gives (λ x. (x.0, x.1.now)) result (reading.epoch_at bytes.now) }
@@ -138,6 +144,7 @@ pub fn epoch_at(bytes: &[u8]) -> Result<(u32, &[u8]), Unread>
     Err(Unread::OutsideGrammar)
 }
 
+/// The ends of a range, in 8 bytes each, the lower one first.
 #[tactic(auto, unfolding(crate::specs::Reading::ends_at))]
 pub fn ends_at(bytes: &[u8]) -> Result<((u64, u64), &[u8]), Unread>
     ensures { Gives (λ x. (x.0, x.1.now)) result (reading.ends_at bytes.now) }
@@ -161,6 +168,7 @@ fn bucket_at(bytes: &[u8]) -> Result<(Bucket, &[u8]), Unread>
     }
 }
 
+/// A kind, by its number in one byte.
 #[tactic(auto, unfolding(crate::specs::Reading::kind_at))]
 pub fn kind_at(bytes: &[u8]) -> Result<(Kind, &[u8]), Unread>
     ensures { Gives (λ x. (x.0, x.1.now)) result (reading.kind_at bytes.now) }
@@ -183,6 +191,7 @@ fn subject_kind_at(bytes: &[u8]) -> Result<(Kind, &[u8]), Unread>
     }
 }
 
+/// How a lease ended, by its number in one byte.
 #[tactic(auto, unfolding(crate::specs::Reading::how_at))]
 pub fn how_at(bytes: &[u8]) -> Result<(How, &[u8]), Unread>
     ensures { Gives (λ x. (x.0, x.1.now)) result (reading.how_at bytes.now) }
@@ -206,6 +215,7 @@ fn lease_in(bytes: &[u8]) -> Option<LeaseId>
     }
 }
 
+/// A lease, in 16 bytes.
 #[tactic(auto, unfolding(crate::specs::Reading::bytes_at, crate::specs::Reading::lease_at))]
 pub fn lease_at(bytes: &[u8]) -> Result<(LeaseId, &[u8]), Unread>
     ensures { Gives (λ x. (x.0, x.1.now)) result (reading.lease_at bytes.now) }
@@ -237,6 +247,7 @@ fn key_from(alloc: Global, bucket: Bucket, value: &[u8]) -> Result<ClaimKey, Unr
     }
 }
 
+/// A key: its bucket's number, the length of its value, and the value.
 #[tactic(auto, unfolding(crate::specs::Reading::key_at))]
 pub fn key_at(alloc: Global, bytes: &[u8]) -> Result<(ClaimKey, &[u8]), Unread>
     ensures { Gives (λ x. (x.0, x.1.now)) result (reading.key_at bytes.now) }
@@ -246,6 +257,7 @@ pub fn key_at(alloc: Global, bytes: &[u8]) -> Result<(ClaimKey, &[u8]), Unread>
     Ok((key_from(alloc, bucket, value)?, rest))
 }
 
+/// A subject: its kind and its identifier.
 #[tactic(auto, unfolding(crate::specs::Reading::subject_at))]
 pub fn subject_at(bytes: &[u8]) -> Result<(Subject, &[u8]), Unread>
     ensures { Gives (λ x. (x.0, x.1.now)) result (reading.subject_at bytes.now) }
@@ -255,6 +267,7 @@ pub fn subject_at(bytes: &[u8]) -> Result<(Subject, &[u8]), Unread>
     Ok((Subject { kind, id }, rest))
 }
 
+/// An origin: its table and its row.
 #[tactic(auto, unfolding(crate::specs::Reading::origin_at))]
 pub fn origin_at(bytes: &[u8]) -> Result<(Origin, &[u8]), Unread>
     ensures { Gives (λ x. (x.0, x.1.now)) result (reading.origin_at bytes.now) }
@@ -264,6 +277,7 @@ pub fn origin_at(bytes: &[u8]) -> Result<(Origin, &[u8]), Unread>
     Ok((Origin { table, row }, rest))
 }
 
+/// A name: its length, from 1, and its bytes.
 #[tactic(auto, unfolding(crate::specs::Reading::name_at))]
 pub fn name_at(alloc: Global, bytes: &[u8]) -> Result<(Text, &[u8]), Unread>
     ensures { Gives (λ x. (x.0, x.1.now)) result (reading.name_at bytes.now) }
@@ -275,6 +289,7 @@ pub fn name_at(alloc: Global, bytes: &[u8]) -> Result<(Text, &[u8]), Unread>
     Ok((Text::from_slice(alloc, name)?, rest))
 }
 
+/// A range: its cell, its number and its ends.
 #[tactic(auto, unfolding(crate::specs::Reading::range_at))]
 pub fn range_at(bytes: &[u8]) -> Result<(Range, &[u8]), Unread>
     ensures { Gives (λ x. (x.0, x.1.now)) result (reading.range_at bytes.now) }

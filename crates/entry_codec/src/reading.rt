@@ -155,9 +155,8 @@ fn whole_service_entry(alloc: Global, body: &[u8]) -> Result<ServiceEntry, Unrea
     Ok(entry)
 }
 
-/// The entry that a body of the service's journal is, or `None` exactly where it is none: where it has not
-/// the form of the grammar to its last byte, or anything in it is out of its bounds. The grammar is
-/// in `specs/Grammar`, the form in `specs/Spelling`.
+/// The entry that a body of the service's journal is, or `None` exactly where it is none: it has not
+/// the form of `specs/Spelling` to its last byte, or something in it is outside `specs/Grammar`.
 pub fn read_service(alloc: Global, body: &[u8]) -> Result<Option<ServiceEntry>, NoMemory>
     ensures some { IfOk result (λ found. IfSome found (λ entry. IsServiceEntry entry × (service_entry_bytes entry ≡ body.now))) }
     ensures only { (entry : ServiceEntry) → IsServiceEntry entry → service_entry_bytes entry ≡ body.now → IfOk result (λ found. found ≡ Some entry) }
@@ -180,9 +179,8 @@ fn whole_cell_entry(alloc: Global, body: &[u8]) -> Result<CellEntry, Unread>
     Ok(entry)
 }
 
-/// The entry that a body of a cell's journal is, or `None` exactly where it is none: where it has not
-/// the form of the grammar to its last byte, or anything in it is out of its bounds. The grammar is
-/// in `specs/Grammar`, the form in `specs/Spelling`.
+/// The entry that a body of a cell's journal is, or `None` exactly where it is none: it has not
+/// the form of `specs/Spelling` to its last byte, or something in it is outside `specs/Grammar`.
 pub fn read_cell(alloc: Global, body: &[u8]) -> Result<Option<CellEntry>, NoMemory>
     ensures some { IfOk result (λ found. IfSome found (λ entry. IsCellEntry entry × (cell_entry_bytes entry ≡ body.now))) }
     ensures only { (entry : CellEntry) → IsCellEntry entry → cell_entry_bytes entry ≡ body.now → IfOk result (λ found. found ≡ Some entry) }

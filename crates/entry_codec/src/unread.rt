@@ -2,7 +2,7 @@ ghost use Rattle.std.specs.Prelude.{◌≡◌};
 ghost use Rattle.entry_codec.specs.declared.unread.Unread.TheVariants.{Memory};
 
 use claim_types::NoMemory;
-use std::alloc::AllocFailed;
+use std::alloc::{AllocError, AllocFailed};
 
 // Why nothing was read.
 #[derive(Drop)]
@@ -15,6 +15,14 @@ impl From<NoMemory> for Unread {
     ghost from_gives = { λ _ e. e ≡ Memory };
 
     fn from(_: NoMemory) -> Self {
+        Unread::Memory
+    }
+}
+
+impl From<AllocError> for Unread {
+    ghost from_gives = { λ _ e. e ≡ Memory };
+
+    fn from(_: AllocError) -> Self {
         Unread::Memory
     }
 }

@@ -5,7 +5,7 @@ use Rattle.entry_codec.proofs.operations.creates_of.Goals as goal
 
 pub returns-in_err-create : goal.returns-in_err-create
 returns-in_err-create c =
-    let p = err_from_is_err_and c.from_residual.result c.from_residual.ensures.1 in
+    let p = err_from_is_err_and c.from_residual-in_err-create.result c.from_residual-in_err-create.ensures.1 in
     rw (p.1, p.2) (ends create_at c.in_err-create.field-0.0 c.loop.creates.items c.args.count c.loop.counter c.loop.rest.now (repeated create_at c.args.count c.args.bytes.now) c.loop-test.true c.in_err-create.ensures c.loop.invariant)
 
 pub loop-preserved : goal.loop-preserved

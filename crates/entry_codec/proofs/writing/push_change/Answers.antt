@@ -1,8 +1,7 @@
-use Rattle.std.proofs.Common.{[], ◌∷◌, ap}
+use Rattle.std.proofs.Common.{[], ◌∷◌}
 use Rattle.std.specs.Int.{w64, to_be_bytes}
-use Rattle.std.specs.Prelude.{OnOk, ◌≡◌, ◌++◌}
 use Rattle.claim_types.specs.Order.{kind_number}
-use Rattle.entry_codec.specs.Spelling.{text_bytes, change_bytes}
+use Rattle.entry_codec.specs.Spelling.{text_bytes}
 use Rattle.entry_codec.proofs.Written.{four}
 use Rattle.entry_codec.proofs.writing.push_change.Goals as goal
 

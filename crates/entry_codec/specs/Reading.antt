@@ -1,11 +1,11 @@
 -- Reading from the front: a part and the bytes behind it, or none. The readers of `src/` follow it part by part, and
 -- `proofs/Entries` shows that it undoes the spelling.
-use Rattle.std.specs.Prelude.{◌≡◌, ℕ, zero, suc, ◌-◌, ◌^◌, Bool, true, not, ◌&&◌, ◌==◌, nat_lt, nat_le, if◌then◌else◌, List, [], ◌∷◌, length, take, drop, Option, Some, None, Result, Ok, Err}
+use Rattle.std.specs.Prelude.{◌≡◌, ℕ, zero, suc, Bool, true, not, ◌&&◌, ◌==◌, nat_lt, nat_le, if◌then◌else◌, List, [], ◌∷◌, length, take, drop, Option, Some, None, Result, Ok, Err}
 use Rattle.std.specs.List.{list_any}
 use Rattle.std.specs.Str.{bytes_eq}
 use Rattle.std.specs.Int.{Width, w16, w32, w64, byte_len, from_be_bytes}
 use Rattle.claim_types.specs.Keys.{key_of}
-use Rattle.claim_types.specs.Leases.{lease_bytes}
+use Rattle.claim_types.specs.Leases.{lease_in}
 use Rattle.claim_types.specs.Numbers.{numbered_bucket, numbered_kind}
 use Rattle.claim_types.specs.Operations.{operation_count}
 use Rattle.claim_types.specs.Order.{key_eq}
@@ -20,7 +20,7 @@ use Rattle.claim_types.specs.declared.key.KeyFault.{KeyFault}
 use Rattle.claim_types.specs.declared.lease.How.{How}
 use Rattle.claim_types.specs.declared.lease.How.TheVariants.{Committed, RolledBack}
 use Rattle.claim_types.specs.declared.lease.LeaseId.{LeaseId}
-use Rattle.claim_types.specs.declared.limits.TheConstants.{GREATEST_IDENTIFIER, GREATEST_CELL, GREATEST_ATTEMPT, OPERATIONS}
+use Rattle.claim_types.specs.declared.limits.TheConstants.{GREATEST_IDENTIFIER, GREATEST_CELL, OPERATIONS}
 use Rattle.claim_types.specs.declared.operations.Create.{Create}
 use Rattle.claim_types.specs.declared.operations.Operations.{Operations}
 use Rattle.claim_types.specs.declared.operations.Origin.{Origin}
@@ -156,21 +156,9 @@ numbered_how n = if n == 1 then Some Committed else if n == 2 then Some RolledBa
 unfoldable pub how_at : Part How
 how_at = converted numbered_how byte_at
 
--- the numbers that stand in the bytes of a lease
-abbrev pub lease_in : List ℕ → LeaseId
-lease_in bytes = record { cell = from_be_bytes w16 (take 2 bytes); epoch = from_be_bytes w32 (take 4 (drop 2 bytes)); attempt = from_be_bytes w64 (take 8 (drop 8 bytes)) - 2 ^ 63 }
-
--- whether a lease is within its bounds
-abbrev pub is_lease : LeaseId → Bool
-is_lease lease = nat_le 1 lease.cell && nat_le lease.cell GREATEST_CELL && nat_le 1 lease.epoch && nat_lt lease.epoch (2 ^ 32) && nat_le 1 lease.attempt && nat_le lease.attempt GREATEST_ATTEMPT
-
--- the lease that these bytes name
-unfoldable pub lease_of : List ℕ → Option LeaseId
-lease_of bytes = if is_lease (lease_in bytes) && bytes_eq (lease_bytes (lease_in bytes)) bytes then Some (lease_in bytes) else None
-
 -- a lease
 unfoldable pub lease_at : Part LeaseId
-lease_at = converted lease_of (bytes_at 16)
+lease_at = converted lease_in (bytes_at 16)
 
 -- the key that was read, where reading left the value as it is
 abbrev pub unchanged : List ℕ → Result ClaimKey KeyFault → Option ClaimKey

@@ -2,6 +2,7 @@
 //! it with the bytes behind it.
 ghost use Rattle.std.specs.Prelude.{◌≡◌, length};
 ghost use Rattle.std.specs.Int.{w16, w32, w64};
+ghost use Rattle.claim_types.specs.Leases.{lease_in};
 ghost use Rattle.entry_codec.specs.Reading as reading;
 ghost use Rattle.entry_codec.specs.Reading.{Gives};
 
@@ -205,9 +206,9 @@ pub fn how_at(bytes: &[u8]) -> Result<(How, &[u8]), Unread>
 }
 
 // The lease that sixteen bytes name.
-fn lease_in(bytes: &[u8]) -> Option<LeaseId>
+fn lease_of(bytes: &[u8]) -> Option<LeaseId>
     requires { length bytes.now ≡ 16 }
-    ensures { result ≡ reading.lease_of bytes.now }
+    ensures { result ≡ lease_in bytes.now }
 {
     match Uuid::from_slice(bytes) {
         Ok(id) => LeaseId::from_uuid(id),
@@ -224,7 +225,7 @@ pub fn lease_at(bytes: &[u8]) -> Result<(LeaseId, &[u8]), Unread>
         return Err(Unread::OutsideGrammar);
     }
     let (front, rest) = bytes.split_at(LEASE_BYTES);
-    match lease_in(front) {
+    match lease_of(front) {
         Some(lease) => Ok((lease, rest)),
         None => Err(Unread::OutsideGrammar),
     }

@@ -8,6 +8,7 @@ mod held;
 mod items;
 mod judge;
 mod leases;
+mod pages;
 mod room;
 
 pub use faults::{BeginFault, CommitFault, RollbackFault};

@@ -257,6 +257,7 @@ impl Leases {
     pub fn hold(&mut self, key: ClaimKey, holding: Holding) -> Result<bool, NoMemory>
         requires { self.old.begun ≡ map.empty }
         ensures answer { IfOk result (λ added. added ≡ is_none (map.get self.old.holder key)) }
+        ensures begun { self.new.begun ≡ self.old.begun }
         ensures after { self.new ≡ after_hold result self.old key holding }
     {
         if self.holder(&key).is_some() {
@@ -272,6 +273,7 @@ impl Leases {
     pub fn settle(&mut self, id: LeaseId, how: How) -> Result<bool, NoMemory>
         requires { self.old.begun ≡ map.empty }
         ensures answer { IfOk result (λ added. added ≡ is_none (map.get self.old.settled id)) }
+        ensures begun { self.new.begun ≡ self.old.begun }
         ensures after { self.new ≡ after_settle result self.old id how }
     {
         if self.how_ended(id).is_some() {

@@ -82,69 +82,92 @@ fn some_leases(alloc: Global) -> Result<Leases, Fail> {
     Ok(leases)
 }
 
+fn verdict(leases: &Leases, attempt: u64, operations: Operations) -> Verdict {
+    leases.judge(&GIVEN, lease(attempt), &operations)
+}
+
+fn commit(leases: &mut Leases, attempt: u64) -> Result<bool, CommitFault> {
+    leases.commit(lease(attempt))
+}
+
+fn rollback(leases: &mut Leases, attempt: u64) -> Result<bool, RollbackFault> {
+    leases.rollback(lease(attempt))
+}
+
 #[test]
 fn looks_at_the_lease_before_its_operations(rt: HostRuntime) -> Result<(), Fail> {
     let alloc = rt.alloc();
     let leases = some_leases(alloc)?;
-    let none = no_operations(alloc);
     let committed = Refusal::Settled {
         how: How::Committed,
     };
     let rolled_back = Refusal::Settled {
         how: How::RolledBack,
     };
-    let same = creating(alloc, b"leased", 6)?;
     let other = Refusal::OtherOperations;
+    let same = creating(alloc, b"leased", 6)?;
+    let none = no_operations(alloc);
+    assert_eq!(rt; verdict(&leases, 1, same), Verdict::Refused(committed));
+    assert_eq!(rt; verdict(&leases, 2, none), Verdict::Refused(rolled_back));
+    let same = creating(alloc, b"leased", 6)?;
+    let none = no_operations(alloc);
+    assert_eq!(rt; verdict(&leases, 3, same), Verdict::Again);
+    assert_eq!(rt; verdict(&leases, 3, none), Verdict::Refused(other));
+    Ok(())
+}
+
+// A key that stands twice, is held, and comes from a row of another cell.
+fn creating_twice(alloc: Global) -> Result<Operations, NoMemory> {
+    let mut operations = creating(alloc, b"held", 101)?;
+    operations.destroys.push(key(alloc, b"held")?)?;
+    Ok(operations)
+}
+
+#[test]
+fn refuses_operations_before_it_looks_at_keys(rt: HostRuntime) -> Result<(), Fail> {
+    let alloc = rt.alloc();
+    let leases = some_leases(alloc)?;
+    let none = Refusal::NoneOrTooMany { n: 0 };
+    let too_many = Refusal::NoneOrTooMany { n: 65 };
+    let twice = Refusal::Twice { index: 1 };
+    let foreign = Refusal::ForeignId { id: 101 };
     assert_eq!(rt;
-        leases.judge(&GIVEN, lease(1), &none),
-        Verdict::Refused(committed)
+        verdict(&leases, 4, no_operations(alloc)),
+        Verdict::Refused(none)
     );
     assert_eq!(rt;
-        leases.judge(&GIVEN, lease(2), &none),
-        Verdict::Refused(rolled_back)
+        verdict(&leases, 4, many(alloc, 65)?),
+        Verdict::Refused(too_many)
     );
-    assert_eq!(rt; leases.judge(&GIVEN, lease(3), &same), Verdict::Again);
     assert_eq!(rt;
-        leases.judge(&GIVEN, lease(3), &none),
-        Verdict::Refused(other)
+        verdict(&leases, 4, creating_twice(alloc)?),
+        Verdict::Refused(twice)
     );
+    let operations = creating(alloc, b"held", 101)?;
+    assert_eq!(rt; verdict(&leases, 4, operations), Verdict::Refused(foreign));
+    assert_eq!(rt; verdict(&leases, 4, many(alloc, 64)?), Verdict::Fresh);
     Ok(())
 }
 
 #[test]
-fn refuses_operations_in_order(rt: HostRuntime) -> Result<(), Fail> {
+fn refuses_keys_in_other_hands(rt: HostRuntime) -> Result<(), Fail> {
     let alloc = rt.alloc();
     let leases = some_leases(alloc)?;
-    let mut twice = creating(alloc, b"held", 101)?;
-    twice.destroys.push(key(alloc, b"held")?)?;
-    let open = lease(3);
-    let refusals = [
-        (no_operations(alloc), Refusal::NoneOrTooMany { n: 0 }),
-        (many(alloc, 65)?, Refusal::NoneOrTooMany { n: 65 }),
-        (twice, Refusal::Twice { index: 1 }),
-        (
-            creating(alloc, b"held", 101)?,
-            Refusal::ForeignId { id: 101 },
-        ),
-        (
-            creating(alloc, b"held", 1)?,
-            Refusal::Owned { index: 0, cell: 1 },
-        ),
-        (
-            creating(alloc, b"leased", 1)?,
-            Refusal::Leased {
-                index: 0,
-                lease: open,
-            },
-        ),
-        (destroying(alloc, b"free")?, Refusal::NotOwned { index: 0 }),
-    ];
-    for (operations, refusal) in refusals {
-        let verdict = leases.judge(&GIVEN, lease(4), &operations);
-        assert_eq!(rt; verdict, Verdict::Refused(refusal));
-    }
-    let most = many(alloc, 64)?;
-    assert_eq!(rt; leases.judge(&GIVEN, lease(4), &most), Verdict::Fresh);
+    let owned = Refusal::Owned { index: 0, cell: 1 };
+    let leased = Refusal::Leased {
+        index: 0,
+        lease: lease(3),
+    };
+    let not_owned = Refusal::NotOwned { index: 0 };
+    let operations = creating(alloc, b"held", 1)?;
+    assert_eq!(rt; verdict(&leases, 4, operations), Verdict::Refused(owned));
+    let operations = creating(alloc, b"leased", 1)?;
+    assert_eq!(rt; verdict(&leases, 4, operations), Verdict::Refused(leased));
+    let operations = destroying(alloc, b"free")?;
+    assert_eq!(rt;
+        verdict(&leases, 4, operations),
+        Verdict::Refused(not_owned)
+    );
     Ok(())
 }
 
@@ -165,18 +188,24 @@ fn opens_only_so_many(rt: HostRuntime) -> Result<(), Fail> {
 }
 
 #[test]
-fn ends_a_lease_once(rt: HostRuntime) -> Result<(), Fail> {
+fn commits_a_lease_once(rt: HostRuntime) -> Result<(), Fail> {
     let alloc = rt.alloc();
     let mut leases = some_leases(alloc)?;
-    assert_eq!(rt; leases.commit(lease(3)), Ok(true));
-    assert_eq!(rt; leases.commit(lease(3)), Ok(false));
-    assert_eq!(rt; leases.rollback(lease(3)), Err(RollbackFault::WasCommitted));
-    assert_eq!(rt; leases.rollback(lease(9)), Ok(true));
-    assert_eq!(rt; leases.rollback(lease(9)), Ok(false));
-    assert_eq!(rt; leases.commit(lease(9)), Err(CommitFault::WasRolledBack));
-    assert_eq!(rt; leases.commit(lease(8)), Err(CommitFault::Unknown));
+    assert_eq!(rt; commit(&mut leases, 3), Ok(true));
+    assert_eq!(rt; commit(&mut leases, 3), Ok(false));
+    assert_eq!(rt; rollback(&mut leases, 3), Err(RollbackFault::WasCommitted));
     let holder = leases.holder(&key(alloc, b"leased")?);
     assert_eq!(rt; holder.map(|holding| holding.origin.row), Some(6));
+    Ok(())
+}
+
+#[test]
+fn rolls_back_a_lease_that_was_never_begun(rt: HostRuntime) -> Result<(), Fail> {
+    let mut leases = some_leases(rt.alloc())?;
+    assert_eq!(rt; commit(&mut leases, 9), Err(CommitFault::Unknown));
+    assert_eq!(rt; rollback(&mut leases, 9), Ok(true));
+    assert_eq!(rt; rollback(&mut leases, 9), Ok(false));
+    assert_eq!(rt; commit(&mut leases, 9), Err(CommitFault::WasRolledBack));
     Ok(())
 }
 

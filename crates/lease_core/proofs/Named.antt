@@ -1,9 +1,11 @@
 -- Look-ups over all open leases, item by item.
-use Rattle.std.proofs.Common.{◌≡◌, ℕ, ◌+◌, Bool, true, false, ◌||◌, cond, List, [], ◌∷◌, ◌++◌, map, nat_eq, count_by, Option, Some, None, option_map, refl, sym, ◌∙◌, ap}
+use Rattle.std.proofs.Common.{◌≡◌, ℕ, ◌+◌, Bool, true, false, ◌||◌, cond, List, [], ◌∷◌, ◌++◌, map, nat_eq, count_by, Option, Some, None, option_map, refl, sym, ◌∙◌, ap, length, arith}
 use Rattle.std.specs.List.{list_any, find, fold}
 use Rattle.std.specs.FinMap.{entries}
+use Rattle.std.specs.FinMap as fin
+use Rattle.std.proofs.lemmas.List.{length-map}
 use Rattle.std.proofs.lemmas.List.Folds.{list_any-append}
-use Rattle.claim_types.specs.Order.{key_eq}
+use Rattle.claim_types.specs.Order.{key_eq, lease_cmp}
 use Rattle.claim_types.specs.declared.key.ClaimKey.{ClaimKey}
 use Rattle.claim_types.specs.declared.operations.Create.{Create}
 use Rattle.claim_types.specs.declared.operations.Operations.{Operations}
@@ -52,3 +54,22 @@ module _ (items : List BegunItem) (sorted : AreBegun items) where
   pub open_in : (cell : ℕ) → count_by (λ (it : BegunItem). nat_eq it.lease.cell cell) items ≡ open_count (open_leases items) cell
   open_in cell = counted_from begun_entry (λ (e : LeaseId × Operations). nat_eq e.0.cell cell) 0 items
       ∙ ap (λ (es : List (LeaseId × Operations)). count_by (λ e. nat_eq e.0.cell cell) es) (sym (entries_list leases_total leases_exact begun_entry items sorted))
+
+same_map : {A B C : Type 0} (f : A → B) (g : B → C) (xs : List A) → map (λ x. g (f x)) xs ≡ map g (map f xs)
+same_map f g [] = refl
+same_map f g (x ∷ xs) = ap (λ (l : List _). g (f x) ∷ l) (same_map f g xs)
+
+no_items : {A : Type 0} (xs : List A) → length xs ≡ 0 → xs ≡ []
+no_items [] h = refl
+no_items (x ∷ xs) h = absurd (omega arith)
+
+module _ (items : List BegunItem) (sorted : AreBegun items) where
+  -- the open leases, in order
+  pub leases_in : map (λ (it : BegunItem). it.lease) items ≡ map (λ (e : LeaseId × Operations). e.0) (entries (open_leases items))
+  leases_in = same_map begun_entry (λ (e : LeaseId × Operations). e.0) items ∙ ap (map (λ (e : LeaseId × Operations). e.0)) (sym (entries_list leases_total leases_exact begun_entry items sorted))
+
+  -- where no lease is open there are no items
+  pub none_open : open_leases items ≡ fin.empty → items ≡ []
+  none_open h =
+      no_items items (sym (length-map items begun_entry) ∙ ap (λ (es : List (LeaseId × Operations)). length es) (sym (entries_list leases_total leases_exact begun_entry items sorted))
+      ∙ sym (fin.len-entries (open_leases items)) ∙ ap fin.len h ∙ fin.len-empty lease_cmp Operations)

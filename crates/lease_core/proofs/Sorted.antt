@@ -13,11 +13,11 @@ use Rattle.std.specs.FinMap.Entries.{is_sorted, below_all, find, put, where_key,
 use Rattle.std.proofs.lemmas.Float.{T_from_true}
 use Rattle.lease_core.specs.Search.{IsAt, IsGap, IsFound}
 
-both : (a b : Bool) → T (a && b) → T a × T b
+pub both : (a b : Bool) → T (a && b) → T a × T b
 both true b h = (tt, h)
 both false b h = absurd h
 
-less : (o : Ordering) → T (is_lt o) → o ≡ Less
+pub less : (o : Ordering) → T (is_lt o) → o ≡ Less
 less Less p = refl
 less Equal p = absurd p
 less Greater p = absurd p
@@ -27,7 +27,7 @@ turned Less h = cc
 turned Equal h = cc
 turned Greater h = refl
 
-is_true : (b : Bool) → T b → IsTrue b
+pub is_true : (b : Bool) → T b → IsTrue b
 is_true true h = refl
 is_true false h = absurd h
 
@@ -51,7 +51,7 @@ not_less Greater h = refl
 
 module _ {K : Type 0} {R : K → K → Ordering} (total : IsTotalOrder R) where
   -- the same comparison from the other side
-  above : (x y : K) → R x y ≡ Less → R y x ≡ Greater
+  pub above : (x y : K) → R x y ≡ Less → R y x ≡ Greater
   above x y h = total.antisymm y x ∙ ap ordering_reverse h
 
   below : (x y : K) → R x y ≡ Greater → R y x ≡ Less
@@ -62,7 +62,7 @@ module _ {K : Type 0} {R : K → K → Ordering} (total : IsTotalOrder R) where
 
 module _ {K V T' : Type 0} {R : K → K → Ordering} (total : IsTotalOrder R) (exact : IsAntisymmetric R) (entry : T' → K × V) where
   -- in order, a key that is below all is below each
-  below_each : (k : K) (items : List T') (i : ℕ) (d : T') → T (below_all R k (map entry items)) → i < length items → R k (entry (get_or items i d)).0 ≡ Less
+  pub below_each : (k : K) (items : List T') (i : ℕ) (d : T') → T (below_all R k (map entry items)) → i < length items → R k (entry (get_or items i d)).0 ≡ Less
   below_each k [] i d h lt = absurd (omega (arith, lt))
   below_each k (x ∷ xs) zero d h lt = less _ (both _ _ h).0
   below_each k (x ∷ xs) (suc i) d h lt = below_each k xs i d (both _ _ h).1 (omega (arith, lt))

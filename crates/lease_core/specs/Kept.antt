@@ -3,7 +3,8 @@ use Rattle.std.specs.Prelude.{◌≡◌, ℕ, ◌+◌, ◌≤◌, IsTrue, List, 
 use Rattle.std.specs.List.{sum_by}
 use Rattle.std.specs.FinMap.{FinMap, from_sorted, is_sorted}
 use Rattle.claim_types.specs.Order.{key_cmp, lease_cmp}
-use Rattle.claim_map.specs.State.{LeaseState}
+use Rattle.claim_map.specs.Pages.{place_cmp}
+use Rattle.claim_types.specs.declared.page.ClaimItem.{ClaimItem}
 use Rattle.claim_types.specs.declared.key.ClaimKey.{ClaimKey}
 use Rattle.claim_types.specs.declared.lease.LeaseId.{LeaseId}
 use Rattle.claim_types.specs.declared.lease.Holding.{Holding}
@@ -54,3 +55,14 @@ settled_leases items = from_sorted (done_entries items)
 -- how many creates these leases have
 abbrev pub creates_of : List BegunItem → ℕ
 creates_of items = sum_by (λ it. length it.ops.creates) items
+
+-- a claim of a page at its place
+abbrev pub claim_entry : ClaimItem → (ℕ × ClaimKey) × ClaimItem
+claim_entry c = ((c.origin.row, c.key), c)
+
+abbrev pub claim_entries : List ClaimItem → List ((ℕ × ClaimKey) × ClaimItem)
+claim_entries items = map claim_entry items
+
+-- the places rise
+abbrev pub AreClaims : List ClaimItem → Type 0
+AreClaims items = IsTrue (is_sorted place_cmp (claim_entries items))

@@ -1,6 +1,10 @@
 -- What the calls that change leases answer, and what stays.
 use Rattle.std.specs.Prelude.{◌≡◌, Bool, true, false, Option, Some, None, Result, Ok, Err}
+use Rattle.std.specs.FinMap as map
+use Rattle.cells_base.specs.declared.memory.NoMemory.{NoMemory}
+use Rattle.claim_types.specs.declared.key.ClaimKey.{ClaimKey}
 use Rattle.claim_types.specs.declared.lease.LeaseId.{LeaseId}
+use Rattle.claim_types.specs.declared.lease.Holding.{Holding}
 use Rattle.claim_types.specs.declared.lease.How.{How}
 use Rattle.claim_types.specs.declared.lease.How.TheVariants.{Committed, RolledBack}
 use Rattle.claim_types.specs.declared.operations.Operations.{Operations}
@@ -8,6 +12,8 @@ use Rattle.claim_types.specs.declared.verdict.Verdict.{Verdict}
 use Rattle.claim_types.specs.declared.verdict.Verdict.TheVariants.{Fresh, Again, Refused}
 use Rattle.claim_map.specs.State.{LeaseState}
 use Rattle.claim_map.specs.Step.{opened, rolled_back}
+use Rattle.lease_core.specs.declared.items.LeaseParts.{LeaseParts}
+use Rattle.lease_core.specs.Kept.{held_entries, begun_entries, done_entries}
 use Rattle.lease_core.specs.declared.faults.BeginFault.{BeginFault}
 use Rattle.lease_core.specs.declared.faults.BeginFault.TheVariants.{Refused as RefusedFault, Memory as BeginMemory}
 use Rattle.lease_core.specs.declared.faults.CommitFault.{CommitFault}
@@ -53,3 +59,21 @@ abbrev pub after_rollback : Result Bool RollbackFault → LeaseState → LeaseId
 after_rollback (Ok true) s lease = rolled_back s lease
 after_rollback (Ok false) s lease = s
 after_rollback (Err fault) s lease = s
+
+-- a holder more, where the answer is that it was added
+abbrev pub after_hold : Result Bool NoMemory → LeaseState → ClaimKey → Holding → LeaseState
+after_hold (Ok true) s key holding = record s { holder = map.insert s.holder key holding }
+after_hold (Ok false) s key holding = s
+after_hold (Err fault) s key holding = s
+
+-- a settled lease more, where the answer is that it was added
+abbrev pub after_settle : Result Bool NoMemory → LeaseState → LeaseId → How → LeaseState
+after_settle (Ok true) s lease how = record s { settled = map.insert s.settled lease how }
+after_settle (Ok false) s lease how = s
+after_settle (Err fault) s lease how = s
+
+-- the entries of each map, in order
+pub record ArePartsOf (s : LeaseState) (parts : LeaseParts) : Type 0 where
+  pub held : held_entries parts.held ≡ map.entries s.holder
+  pub done : done_entries parts.done ≡ map.entries s.settled
+  pub begun : begun_entries parts.begun ≡ map.entries s.begun

@@ -11,8 +11,8 @@ use crate::room::insert_reserved;
 use claim_types::{Bucket, ClaimKey, Create, Holding};
 use std::cmp::Ordering;
 
-// A key against the key of this bucket and value.
-fn key_order(key: &ClaimKey, bucket: Bucket, value: &[u8]) -> Ordering
+/// A key against the key of this bucket and value.
+pub fn key_order(key: &ClaimKey, bucket: Bucket, value: &[u8]) -> Ordering
     ensures { result ≡ key_cmp key.now (record { bucket = bucket; value = value.now }) }
 {
     key.bucket

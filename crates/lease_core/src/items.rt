@@ -1,3 +1,5 @@
+ghost use Rattle.std.specs.Prelude.{◌≡◌, IfOk};
+
 use claim_types::{ClaimKey, Copied, Holding, How, Items, LeaseId, NoMemory, Operations};
 use std::alloc::Global;
 
@@ -61,4 +63,15 @@ impl Copied for BegunItem {
             ops: self.ops.copy(alloc)?,
         })
     }
+}
+
+/// A copy of each of these, in order.
+pub fn copies<T: Copied + Drop>(alloc: Global, items: &[T]) -> Result<Items<T>, NoMemory>
+    ensures { IfOk result (λ copied. copied ≡ items.now) }
+{
+    let mut copied = Vec::with_capacity(alloc, items.len())?;
+    for item in items {
+        copied.push(item.copy(alloc)?)?;
+    }
+    Ok(Items::from_vec(copied))
 }

@@ -1,15 +1,22 @@
-ghost use Rattle.std.specs.Prelude.{◌≡◌, Option, Some, None, option_map, OnOk, OnErr};
+ghost use Rattle.std.specs.Prelude.{◌≡◌, Option, Some, None, option_map, is_none, IfOk, OnOk, OnErr};
 ghost use Rattle.std.specs.FinMap as map;
 ghost use Rattle.claim_types.specs.Order.{operations_eq};
 ghost use Rattle.claim_map.specs.State.{no_leases};
 ghost use Rattle.claim_map.specs.Verdict.{verdict_of, lease_naming, open_count};
+ghost use Rattle.claim_map.specs.Pages.{lease_page, claim_page};
 ghost use Rattle.claim_map.specs.Step.{opened, committed, rolled_back};
-ghost use Rattle.lease_core.specs.Outcomes.{IsBegin, after_begin, commit_answer, IsRollback, after_rollback};
+ghost use Rattle.lease_core.specs.Outcomes.{IsBegin, after_begin, commit_answer, IsRollback, after_rollback, after_hold, after_settle, ArePartsOf};
 
+use crate::items::copies;
+use crate::pages::Listing;
 use crate::{
-    BeginFault, BegunItem, CommitFault, DoneItem, HeldItem, RollbackFault, begun, done, held,
+    BeginFault, BegunItem, CommitFault, DoneItem, HeldItem, LeaseParts, RollbackFault, begun, done,
+    held, pages,
 };
-use claim_types::{Bucket, ClaimKey, Holding, How, LeaseId, NoMemory, Operations, Range, Verdict};
+use claim_types::{
+    Bucket, CLAIMS_A_PAGE, ClaimKey, ClaimPage, Holding, How, LEASES_A_PAGE, LeaseId, LeasePage,
+    NoMemory, Operations, Range, Verdict,
+};
 use std::alloc::Global;
 use std::marker::Model;
 
@@ -192,5 +199,89 @@ impl Leases {
             Some(How::RolledBack) => Ok(false),
             Some(How::Committed) => Err(RollbackFault::WasCommitted),
         }
+    }
+}
+
+impl Leases {
+    /// The first open leases of a cell behind `after`, in order, at most 100.
+    pub fn list(
+        &self,
+        alloc: Global,
+        cell: u16,
+        after: Option<LeaseId>,
+    ) -> Result<LeasePage, NoMemory>
+        ensures { IfOk result (λ page. page ≡ lease_page self.now cell after) }
+    {
+        let found = pages::leases_behind(alloc, &self.begun, cell, after, pages::LEASES_SOUGHT)?;
+        let (leases, more) = pages::page_of(found, LEASES_A_PAGE as usize);
+        Ok(LeasePage { leases, more })
+    }
+
+    /// The first claims of a cell and a bucket whose row is from `first` to `last` and above
+    /// `after`, in order of row and then of key, at most 64.
+    pub fn claims_in(
+        &self,
+        alloc: Global,
+        cell: u16,
+        bucket: Bucket,
+        first: u64,
+        last: u64,
+        after: u64,
+    ) -> Result<ClaimPage, NoMemory>
+        ensures { IfOk result (λ page. page ≡ claim_page self.now cell bucket first last after) }
+    {
+        let listing = Listing {
+            cell,
+            bucket,
+            first,
+            last,
+            after,
+        };
+        let found = pages::first_claims(alloc, &self.held, &listing, pages::CLAIMS_SOUGHT)?;
+        let (items, more) = pages::page_of(found, CLAIMS_A_PAGE as usize);
+        Ok(ClaimPage { items, more })
+    }
+
+    /// All holders, settled leases and open leases, each in ascending order of key or lease.
+    pub fn parts(&self, alloc: Global) -> Result<LeaseParts, NoMemory>
+        ensures { IfOk result (ArePartsOf self.now) }
+    {
+        Ok(LeaseParts {
+            held: copies(alloc, &self.held)?,
+            done: copies(alloc, &self.done)?,
+            begun: copies(alloc, &self.begun)?,
+        })
+    }
+
+    /// Adds a holder to a state with no open lease, unless the key is held. Ok(true) says that it
+    /// was added.
+    pub fn hold(&mut self, key: ClaimKey, holding: Holding) -> Result<bool, NoMemory>
+        requires { self.old.begun ≡ map.empty }
+        ensures answer { IfOk result (λ added. added ≡ is_none (map.get self.old.holder key)) }
+        ensures begun { self.new.begun ≡ self.old.begun }
+        ensures after { self.new ≡ after_hold result self.old key holding }
+    {
+        if self.holder(&key).is_some() {
+            return Ok(false);
+        }
+        self.held.reserve(1)?;
+        held::put(&mut self.held, key, holding);
+        Ok(true)
+    }
+
+    /// Adds a settled lease to a state with no open lease, unless the lease is settled. Ok(true)
+    /// says that it was added.
+    pub fn settle(&mut self, id: LeaseId, how: How) -> Result<bool, NoMemory>
+        requires { self.old.begun ≡ map.empty }
+        ensures answer { IfOk result (λ added. added ≡ is_none (map.get self.old.settled id)) }
+        ensures begun { self.new.begun ≡ self.old.begun }
+        ensures after { self.new ≡ after_settle result self.old id how }
+    {
+        if self.how_ended(id).is_some() {
+            return Ok(false);
+        }
+        self.done.reserve(1)?;
+        done::put(&mut self.done, id, how);
+        Ok(true)
     }
 }

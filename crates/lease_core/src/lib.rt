@@ -1,4 +1,24 @@
-//! The leases of the claim map.
+//! The leases of the claim map: who holds each key, which leases are open, and how the others ended.
+//!
+//! A lease is opened by [`Leases::begin`] where its claims are free, and ends by [`Leases::commit`],
+//! which applies it, or by [`Leases::rollback`]:
+//!
+//! ```text
+//! let mut leases = Leases::new(alloc);
+//! leases.begin(&given, lease, operations)?;     // Verdict::Fresh: its keys are spoken for
+//! leases.commit(lease)?;                        // true: its cell holds the created keys
+//! leases.commit(lease)?;                        // false: it was committed before
+//! leases.holder(&key);                          // Some(Holding { cell, subject, origin })
+//! ```
+//!
+//! Promised: each call is exactly a step of the claim map or none, and says which. The verdict of
+//! [`Leases::judge`] is that of `claim_map`'s `specs/Verdict`; `begin`, `commit` and `rollback` leave
+//! the state that its `specs/Step` says, where `specs/Outcomes` says when; the pages are those of its
+//! `specs/Pages`. `begin` takes the room that its lease will need, so `commit` takes no memory, nor does
+//! `rollback` of a lease that was begun. After want of memory the state is as it was.
+//!
+//! Keys and leases are kept in order, so a look-up halves its way. Which open lease names a key is
+//! found by looking at each.
 #![tactic(auto)]
 
 mod begun;
@@ -8,8 +28,12 @@ mod held;
 mod items;
 mod judge;
 mod leases;
+mod pages;
 mod room;
+#[cfg(test)]
+mod tests;
 
+pub use claim_types::{ClaimItem, ClaimItems, ClaimPage, LeaseIds, LeasePage, Refusal, Verdict};
 pub use faults::{BeginFault, CommitFault, RollbackFault};
 pub use items::{BegunItem, BegunItems, DoneItem, DoneItems, HeldItem, HeldItems, LeaseParts};
 pub use leases::Leases;

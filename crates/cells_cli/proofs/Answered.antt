@@ -78,10 +78,12 @@ module _ (registry : Registry) (start : ClaimMap) (lines : List (List ℕ)) (n :
           ∙ ap (λ (bytes : List ℕ). before ++ bytes) all_more
 
       part_more : (front : List ℕ) → IsPrefix front (line_answer registry s line) → now ≡ written ++ front → IsAnswered registry start lines (Err WriteFault) before now
-      part_more front is h =
-          (more, answers registry start (take n lines) ++ front,
-          (is.0, sym all_more ∙ ap (λ (bytes : List ℕ). answers registry start (take n lines) ++ bytes) is.1 ∙ sym (append_assoc (answers registry start (take n lines)) front is.0)),
-          h ∙ ap (λ (bytes : List ℕ). bytes ++ front) done ∙ append_assoc before (answers registry start (take n lines)) front)
+      part_more front is h = (
+        more,
+        answers registry start (take n lines) ++ front,
+        (is.0, sym all_more ∙ ap (λ (bytes : List ℕ). answers registry start (take n lines) ++ bytes) is.1 ∙ sym (append_assoc (answers registry start (take n lines)) front is.0)),
+        h ∙ ap (λ (bytes : List ℕ). bytes ++ front) done ∙ append_assoc before (answers registry start (take n lines)) front,
+      )
 
       -- an answer that stopped
       pub stopped : (stop : Stop) (r : Result (Unit {0}) Stop) → r ≡ Err stop → (r ≡ Err ReadFault → ⊥) × ((k : ℕ) → r ≡ Err (Script k) → ⊥)

@@ -3,3 +3,4 @@ pub mod Places
 pub mod Refusals
 pub mod Runs
 pub mod Answered
+pub mod Reported

@@ -1,25 +1,27 @@
-//! The program as a library. So far it has the reading of an input by lines.
+//! The program as a library: the commands, what they read and what they write.
 //!
 //! ```text
-//! let mut reader = LineReader::new(alloc, 1_024)?;
-//! while reader.next(&mut source)? {
-//!     answer(reader.line())?;
-//! }
+//! let status = run(alloc, &words, &mut script, &mut out);      // words: ["replay"]
+//! exit(status.code())
 //! ```
 //!
-//! Promised: the lines come as `specs/Lines` defines them, in order and each once, in whatever pieces
-//! the source gives its bytes; a line is refused exactly where it has more bytes than the limit or
-//! [`LINES`] lines were given before it; and a fault of the source comes only where its count rose.
+//! `replay` reads requests as lines of JSON and answers each by one line, from a service in memory that
+//! knows one cell. Its whole promise is the contract of [`run`]: what is written is exactly the reply
+//! that is due to each line in the claim map after the earlier lines (`specs/Replay`, over
+//! `due` of claim_map), and where a run ends early the last line names its cause (`specs/Report`).
+//!
+//! The lines come as `specs/Lines` defines them, in whatever pieces the source gives its bytes.
 #![tactic(auto)]
 
+mod command;
 mod lines;
 mod replay;
-mod run;
 mod service;
 mod status;
 #[cfg(test)]
 mod tests;
 
+pub use command::run;
 pub use lines::{LINES, LONGEST_LINE_BYTES, LineFault, LineReader};
 pub use service::Service;
 pub use status::Status;

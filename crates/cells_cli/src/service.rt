@@ -83,7 +83,12 @@ impl Service {
         })
     }
 
-    fn begin(&mut self, alloc: Global, lease: LeaseId, ops: Operations) -> Result<BegunResult, NoMemory>
+    fn begin(
+        &mut self,
+        alloc: Global,
+        lease: LeaseId,
+        ops: Operations,
+    ) -> Result<BegunResult, NoMemory>
         ensures ok { IfOk result (λ outcome. BeginsAs (map_of self.old) lease ops outcome (map_of self.new)) }
         ensures err { OnErr result (map_of self.new ≡ map_of self.old) }
     {

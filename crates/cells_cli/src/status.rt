@@ -1,6 +1,5 @@
 ghost use Rattle.std.specs.Prelude.{◌≡◌, IfOk, string_bytes};
 
-
 use cells_base::NoMemory;
 use std::alloc::Global;
 

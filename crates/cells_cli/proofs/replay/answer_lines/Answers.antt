@@ -39,4 +39,4 @@ returns-in_err-answer_line-clause-told g c s w =
     let counted = counted_is c.in_ok-next.field-0 c.next.new.self.given n c.if-branch.true c.in_ok-next.ensures.counted in
     let ahead = sym (c.loop-service.invariant.ahead s) ∙ next_is c.in_ok-next.field-0 _ _ _ c.if-branch.true (c.in_ok-next.ensures.next s) ∙ ap (λ (l : List ℕ). l ∷ rest) (sym c.line.ensures) in
     rw (p.1, p.2) (stopped plain_registry start lines n line rest ahead c.next.new.self.given counted (map_of c.loop-service.service) (c.loop-service.invariant.map s) (g.W.Sink.written c.args.out.now) (g.W.Sink.written c.loop-service.out) (c.loop-service.invariant.done s w) (g.W.Sink.written c.answer_line.new.out)
-        c.in_err-answer_line.field-0.0 c.answer_line.result c.in_err-answer_line.was c.answer_line.ensures.others (c.answer_line.ensures.nothing w) (c.answer_line.ensures.part w))
+    c.in_err-answer_line.field-0.0 c.answer_line.result c.in_err-answer_line.was c.answer_line.ensures.others (c.answer_line.ensures.nothing w) (c.answer_line.ensures.part w))

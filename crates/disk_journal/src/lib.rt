@@ -1,0 +1,8 @@
+//! Files that may be torn by a crash, and a journal that no crash takes apart.
+#![tactic(auto)]
+
+mod disk;
+mod journal;
+
+pub use disk::{Disk, DiskFailed, FILE_BYTES};
+pub use journal::Journal;

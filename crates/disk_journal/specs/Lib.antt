@@ -1,2 +1,4 @@
 pub mod Disk
 pub mod Journal
+pub mod Memory
+pub mod Inside

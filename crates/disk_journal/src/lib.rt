@@ -3,6 +3,8 @@
 
 mod disk;
 mod journal;
+mod memory;
+mod memory_file;
 
 pub use disk::{Disk, DiskFailed, FILE_BYTES};
 pub use journal::Journal;

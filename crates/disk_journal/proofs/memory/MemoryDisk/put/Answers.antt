@@ -1,0 +1,16 @@
+use Rattle.std.proofs.Common.{◌≡◌, ◌≤◌, ◌+◌, [], List, length, take, drop, refl, sym, subst, ap, ◌∙◌, arith}
+use Rattle.disk_journal.specs.Memory.{FileState, IsConsistent, no_file, state_of, written_at, cut_to, flushed}
+use Rattle.disk_journal.proofs.States.{found, not_found, put_back, stays, consistent_none}
+use Rattle.disk_journal.proofs.memory.MemoryDisk.put.Goals as goal
+
+pub write-requires : goal.write-requires
+write-requires c =
+    let is = found c.args.self.now.files.items c.args.file c.in-Some.i (sym c.place.ensures ∙ c.in-Some.is) c.index_mut-target.result.now c.index_mut-target.ensures.value in
+    subst (λ (s : FileState). c.args.at ≤ length s.seen) is c.requires
+
+pub returns-clause-consistent : goal.returns-clause-consistent
+returns-clause-consistent c t = subst IsConsistent (sym (found c.args.self.now.files.items c.args.file c.in-Some.i (sym c.place.ensures ∙ c.in-Some.is) c.index_mut-target.result.now c.index_mut-target.ensures.value)) c.write.ensures.consistent
+
+pub returns-clause-done : goal.returns-clause-done
+returns-clause-done c t =
+    put_back c.args.self.now.files.items c.args.file c.in-Some.i (sym c.place.ensures ∙ c.in-Some.is) (written_at c.args.at c.args.bytes.now) c.index_mut-target.result.now _ c.index_mut-target.ensures.value (c.write.ensures.done t) refl

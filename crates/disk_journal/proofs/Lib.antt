@@ -5,3 +5,5 @@ pub mod Overlaid
 pub mod Files
 pub mod States
 pub mod Torn
+pub mod Calls
+pub mod Crash

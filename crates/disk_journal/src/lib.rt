@@ -8,3 +8,4 @@ mod memory_file;
 
 pub use disk::{Disk, DiskFailed, FILE_BYTES};
 pub use journal::Journal;
+pub use memory::{FailingCall, MemoryDisk};

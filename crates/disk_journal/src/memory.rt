@@ -1,6 +1,6 @@
-ghost use Rattle.std.specs.Prelude.{◌≡◌, ◌≢◌, ◌+◌, ◌-◌, ◌≤◌, ◌<◌, ◌^◌, ◌++◌, [], ◌∷◌, ◌==◌, ℕ, List, true, false, Bool, IsTrue, ◌⊎◌, IfOk, OnOk, OnErr, Option, Some, None, position, length, take, drop, replicate, vec_len};
-ghost use Rattle.disk_journal.specs.Memory.{FileState, IsConsistent, MayLeave, written_at, cut_to, flushed, crashed, left_by, state_of, no_file, Changes};
-ghost use Rattle.disk_journal.specs.Disk.{HasCause, RoseAt};
+ghost use Rattle.std.specs.Prelude.{◌≡◌, ◌≢◌, ◌+◌, ◌-◌, ◌≤◌, ◌<◌, ◌^◌, ◌++◌, [], ◌∷◌, ◌==◌, ℕ, List, true, false, Bool, IsTrue, ◌⊎◌, IfOk, OnOk, OnErr, Option, Some, None, position, map, slice_index_or, length, take, drop, replicate, vec_len};
+ghost use Rattle.disk_journal.specs.Memory.{FileState, IsConsistent, IsLeft, MayLeave, written_at, cut_to, flushed, crashed, left_by, state_of, no_file, Changes};
+ghost use Rattle.disk_journal.specs.Disk.{HasCause, IsImage, Only};
 
 use crate::memory_file::MemoryFile;
 use crate::{Disk, DiskFailed, FILE_BYTES};
@@ -52,6 +52,15 @@ fn empty_files(alloc: Global, numbers: &[u16], room: usize) -> Result<Vec<Memory
     Ok(files)
 }
 
+fn crash_each(files: &mut [MemoryFile], pick: u64)
+    ensures left { files.new ≡ map (crashed pick) files.old }
+    ensures may { (k : ℕ) → k < length files.old → IsLeft (slice_index_or files.old k no_file) (left_by pick (slice_index_or files.old k no_file)) }
+{
+    for file in files.iter_mut() {
+        file.crash(pick);
+    }
+}
+
 impl MemoryDisk {
     /// A disk with these files, all empty, each with this room in bytes, on which these calls fail.
     pub fn new(alloc: Global, numbers: &[u16], room: usize, failing: Vec<FailingCall>) -> Result<Self, NoMemory> {
@@ -64,6 +73,21 @@ impl MemoryDisk {
         })
     }
 
+    /// The disk after a crash, all of it synced. With pick 0 each byte written since its file's last sync is
+    /// as it was before, and 0 where it stands past the least size since. With another pick it is the pick
+    /// modulo 256. A cut that was not synced stands with every pick.
+    pub fn crash(self, pick: u64) -> MemoryDisk
+        ensures left { (f : ℕ) → state_of result.files.items f ≡ crashed pick (state_of self.files.items f) }
+        ensures image { IsImage (λ f. MayLeave (state_of self.files.items f)) (λ f. (state_of result.files.items f).seen) }
+        ensures durable { (f : ℕ) → Only (state_of result.files.items f).seen (MayLeave (state_of result.files.items f)) }
+        ensures faults { result.faults ≡ self.faults }
+        ensures last { result.last_fault ≡ self.last_fault }
+    {
+        let mut disk = self;
+        crash_each(&mut disk.files, pick);
+        disk
+    }
+
     // The place of the file with this number.
     fn place(&self, number: u16) -> Option<usize>
         ensures { result ≡ position (λ (s : FileState). s.number == number) self.now.files.items }
@@ -72,7 +96,7 @@ impl MemoryDisk {
     }
 
     fn next_fate(&mut self) -> Fate
-        ensures files { self.new.files ≡ self.old.files }
+        ensures files { self.new.files.items ≡ self.old.files.items }
         ensures faults { self.new.faults ≡ self.old.faults }
         ensures last { self.new.last_fault ≡ self.old.last_fault }
     {
@@ -82,7 +106,7 @@ impl MemoryDisk {
 
     // What a call answers that passed or not, and counts.
     fn answer(&mut self, file: u16, passed: bool) -> Result<(), DiskFailed>
-        ensures files { self.new.files ≡ self.old.files }
+        ensures files { self.new.files.items ≡ self.old.files.items }
         ensures cause { HasCause file self.old.faults self.new.faults self.old.last_fault self.new.last_fault result }
         ensures ok { OnOk result (IsTrue passed) }
     {
@@ -100,7 +124,7 @@ impl MemoryDisk {
         ensures faults { self.new.faults ≡ self.old.faults }
         ensures last { self.new.last_fault ≡ self.old.last_fault }
         ensures consistent { IsTrue result → IsConsistent (state_of self.old.files.items file) }
-        ensures fits { IsTrue result → at + length bytes.now ≤ 2 ^ 62 }
+        ensures fits { IsTrue result → at + length bytes.now ≤ FILE_BYTES }
         ensures done { IsTrue result → Changes file (written_at at bytes.now) self.old.files.items self.new.files.items }
         ensures full { result ≡ false → self.new.files.items ≡ self.old.files.items }
     {
@@ -138,6 +162,73 @@ impl MemoryDisk {
         }
     }
 
+    // Whether the next call passes. One that fails and changes nothing has done its work either way.
+    fn passes(&mut self) -> bool
+        ensures files { self.new.files.items ≡ self.old.files.items }
+        ensures faults { self.new.faults ≡ self.old.faults }
+        ensures last { self.new.last_fault ≡ self.old.last_fault }
+    {
+        matches!(self.next_fate(), Fate::Passes)
+    }
+
+    // The same, where the call may be one that fails.
+    fn try_put(&mut self, file: u16, at: u64, bytes: &[u8]) -> bool
+        requires { at ≤ length (state_of self.old.files.items file).seen }
+        ensures faults { self.new.faults ≡ self.old.faults }
+        ensures last { self.new.last_fault ≡ self.old.last_fault }
+        ensures work { (Changes file (written_at at bytes.now) self.old.files.items self.new.files.items × IsConsistent (state_of self.old.files.items file)) ⊎ (self.new.files.items ≡ self.old.files.items) }
+        ensures done { IsTrue result → Changes file (written_at at bytes.now) self.old.files.items self.new.files.items }
+        ensures fits { IsTrue result → at + length bytes.now ≤ FILE_BYTES }
+    {
+        match self.next_fate() {
+            Fate::FailsIdle => false,
+            Fate::FailsDone => {
+                self.put(file, at, bytes);
+                false
+            }
+            Fate::Passes => self.put(file, at, bytes),
+        }
+    }
+
+    fn try_shorten(&mut self, file: u16, size: u64) -> bool
+        requires { size ≤ length (state_of self.old.files.items file).seen }
+        ensures faults { self.new.faults ≡ self.old.faults }
+        ensures last { self.new.last_fault ≡ self.old.last_fault }
+        ensures work { (Changes file (cut_to size) self.old.files.items self.new.files.items × IsConsistent (state_of self.old.files.items file)) ⊎ (self.new.files.items ≡ self.old.files.items) }
+        ensures done { IsTrue result → Changes file (cut_to size) self.old.files.items self.new.files.items }
+    {
+        match self.next_fate() {
+            Fate::FailsIdle => false,
+            Fate::FailsDone => {
+                self.shorten(file, size);
+                false
+            }
+            Fate::Passes => {
+                self.shorten(file, size);
+                true
+            }
+        }
+    }
+
+    fn try_flush(&mut self, file: u16) -> bool
+        ensures faults { self.new.faults ≡ self.old.faults }
+        ensures last { self.new.last_fault ≡ self.old.last_fault }
+        ensures work { Changes file flushed self.old.files.items self.new.files.items ⊎ (self.new.files.items ≡ self.old.files.items) }
+        ensures done { IsTrue result → Changes file flushed self.old.files.items self.new.files.items }
+    {
+        match self.next_fate() {
+            Fate::FailsIdle => false,
+            Fate::FailsDone => {
+                self.flush(file);
+                false
+            }
+            Fate::Passes => {
+                self.flush(file);
+                true
+            }
+        }
+    }
+
     fn len_of(&self, file: u16) -> u64
         ensures { result ≡ length (state_of self.now.files.items file).seen }
     {
@@ -154,5 +245,60 @@ impl MemoryDisk {
         if let Some(i) = self.place(file) {
             self.files[i].read(at as usize, buf);
         }
+    }
+}
+
+impl Disk for MemoryDisk {
+    ghost use Rattle.std.specs.Prelude.{◌≡◌, ◌⊎◌, ℕ, true, length};
+    ghost use Rattle.std.proofs.Common.{refl, inl};
+    ghost use Rattle.disk_journal.specs.Memory.{state_of, MayLeave};
+    ghost use Rattle.disk_journal.specs.Disk.{IsImage};
+
+    ghost tells = { true };
+
+    ghost seen = { λ d f. (state_of d.files.items f).seen };
+
+    ghost may_leave = { λ d f. MayLeave (state_of d.files.items f) };
+
+    ghost moment = { λ d. 0 };
+
+    ghost left_since = { λ d t. IsImage (λ f. MayLeave (state_of d.files.items f)) };
+
+    ghost faults = { λ d. d.faults };
+
+    ghost last_fault = { λ d. d.last_fault };
+
+    ghost counts_now = { λ d t img le now. now };
+
+    ghost only_now = { λ d img left. left };
+
+    ghost seen_may_stay = { λ d f. inl refl };
+
+    fn size(&mut self, file: u16) -> Result<u64, DiskFailed> {
+        let size = self.len_of(file);
+        let passed = self.passes() && size <= FILE_BYTES;
+        self.answer(file, passed)?;
+        Ok(size)
+    }
+
+    fn read(&mut self, file: u16, at: u64, buf: &mut [u8]) -> Result<(), DiskFailed> {
+        self.fill(file, at, buf);
+        let passed = self.passes();
+        self.answer(file, passed)
+    }
+
+    fn write_at(&mut self, file: u16, at: u64, bytes: &[u8]) -> Result<(), DiskFailed> {
+        let passed = self.try_put(file, at, bytes);
+        self.answer(file, passed)
+    }
+
+    fn cut(&mut self, file: u16, size: u64) -> Result<(), DiskFailed> {
+        let passed = self.try_shorten(file, size);
+        self.answer(file, passed)
+    }
+
+    fn sync(&mut self, file: u16) -> Result<(), DiskFailed> {
+        let passed = self.try_flush(file);
+        self.answer(file, passed)
     }
 }

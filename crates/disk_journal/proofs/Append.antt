@@ -3,7 +3,7 @@ use Rattle.std.proofs.Common.{◌≡◌, ◌≢◌, ◌≤◌, ◌<◌, inl, inr
 use Rattle.disk_journal.specs.Disk.{Image, Outcomes, IsImage, NoMore, Only, Steps, SameEverywhere, Holds, Torn, Elapses, LeavesOnly}
 use Rattle.disk_journal.specs.Journal.{header, framed, IsBody, IsJournal, JournalState, IsAtRest, IsSettled, IsBeforeOrAfter}
 use Rattle.disk_journal.proofs.Moments.{UpTo, started, goes_on, no_more}
-use Rattle.disk_journal.proofs.Records.{length-framed, records_push, torn_behind, written_behind, torn_gate, written_gate, longer, any_gate}
+use Rattle.disk_journal.proofs.Writing.{length-framed, records_push, torn_behind, written_behind, torn_gate, written_gate, longer, any_gate}
 
 module _ {D : Type 0} (moment : D → ℕ) (left_since : D → ℕ → Image → Type 0) (seen : D → Image) (may_leave : D → Outcomes)
     (only_now : (d : D) (img : Image) → left_since d (moment d) img → IsImage (may_leave d) img)

@@ -1,5 +1,5 @@
 pub mod Moments
-pub mod Records
+pub mod Writing
 pub mod Append
 pub mod Overlaid
 pub mod Files
@@ -7,3 +7,4 @@ pub mod States
 pub mod Torn
 pub mod Calls
 pub mod Crash
+pub mod Reading

@@ -2,7 +2,7 @@
 use Rattle.std.specs.Prelude.{◌≡◌, ◌≢◌, ◌⊎◌, ℕ, ◌+◌, ◌≤◌, ◌<◌, Bool, IsTrue, List, [], ◌∷◌, ◌++◌, length, take}
 use Rattle.std.specs.Int.{w32, to_be_bytes}
 use Rattle.cells_base.specs.Causes.{Rose}
-use Rattle.disk_journal.specs.Disk.{Only, Image, Outcomes}
+use Rattle.disk_journal.specs.Disk.{Only, Image, IsImage, Outcomes}
 
 -- the bytes of `cells-journal-01`
 abbrev pub header : List ℕ
@@ -24,6 +24,30 @@ AreRecords bytes (body ∷ bodies) = (gate : ℕ) × (rest : List ℕ) × (gate 
 -- the header, the records of these bodies, a closed gate, and then anything
 abbrev pub IsJournal : List ℕ → List (List ℕ) → Type 0
 IsJournal bytes bodies = (front : List ℕ) × (rest : List ℕ) × AreRecords front bodies × (bytes ≡ header ++ front ++ 0 ∷ rest)
+
+-- behind an open gate: this body, the next gate, and then anything
+abbrev pub IsRecord : List ℕ → List ℕ → Type 0
+IsRecord body behind = IsBody body × ((next : ℕ) × (rest : List ℕ) × (behind ≡ framed body ++ next ∷ rest))
+
+-- behind the records of some bodies the gate here is open, and no record with its next gate stands behind it
+pub record IsBrokenAt (bytes : List ℕ) (at : ℕ) : Type 0 where
+  pub bodies : List (List ℕ)
+  pub front : List ℕ
+  pub gate : ℕ
+  pub behind : List ℕ
+  pub records : AreRecords front bodies
+  pub long : 16 + length front ≡ at
+  pub file : bytes ≡ header ++ front ++ gate ∷ behind
+  pub is_open : gate ≢ 0
+  pub no_record : (body : List ℕ) → IsRecord body behind → ⊥
+
+-- The bytes are no journal, and the place that shows it: 0 where they are fewer than 17 or begin otherwise, else that of an open gate.
+abbrev pub IsRefused : List ℕ → ℕ → Type 0
+IsRefused bytes at = ((at ≡ 0) × ((length bytes < 17) ⊎ (take 16 bytes ≢ header))) ⊎ IsBrokenAt bytes at
+
+-- a journal without a body
+abbrev pub fresh : List ℕ
+fresh = header ++ 0 ∷ []
 
 -- the files of the journal that is kept on this file
 abbrev pub IsOwn : ℕ → ℕ → Type 0
@@ -73,3 +97,15 @@ RoseOwn file before now now_file = Rose before now × IsOwn file now_file
 pub record CountsOwn (file before now before_file now_file : ℕ) : Type 0 where
   pub later : before ≤ now
   pub of_own : ((now ≡ before) × (now_file ≡ before_file)) ⊎ RoseOwn file before now now_file
+
+-- a journal without a body stands on this file, and all of it is on the disk
+pub record IsMade (seen : Image) (may_leave : Outcomes) (file : ℕ) : Type 0 where
+  pub content : seen file ≡ fresh
+  pub durable : Only fresh (may_leave file)
+
+-- The files at a moment of an opening: as a crash might have left them at its start, but that the journal's file may have lost what does not count.
+pub record IsOpening (may_leave : Outcomes) (file : ℕ) (img : Image) : Type 0 where
+  pub from : Image
+  pub might : IsImage may_leave from
+  pub bodies : (bodies : List (List ℕ)) → HasBodies from file bodies → HasBodies img file bodies
+  pub others : OthersStay may_leave file img

@@ -2,3 +2,4 @@ pub mod Disk
 pub mod Journal
 pub mod Memory
 pub mod Inside
+pub mod Answers

@@ -2,10 +2,13 @@
 #![tactic(auto)]
 
 mod disk;
+mod fault;
 mod journal;
 mod memory;
 mod memory_file;
+mod records;
 
 pub use disk::{Disk, DiskFailed, FILE_BYTES};
+pub use fault::{JournalFault, MakeFault};
 pub use journal::Journal;
 pub use memory::{FailingCall, MemoryDisk};

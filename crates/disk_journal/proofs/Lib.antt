@@ -8,3 +8,4 @@ pub mod Torn
 pub mod Calls
 pub mod Crash
 pub mod Reading
+pub mod Opening

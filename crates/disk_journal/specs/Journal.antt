@@ -2,7 +2,7 @@
 use Rattle.std.specs.Prelude.{◌≡◌, ◌≢◌, ◌⊎◌, ℕ, ◌+◌, ◌≤◌, ◌<◌, Bool, IsTrue, List, [], ◌∷◌, ◌++◌, length, take}
 use Rattle.std.specs.Int.{w32, to_be_bytes}
 use Rattle.cells_base.specs.Causes.{Rose}
-use Rattle.disk_journal.specs.Disk.{Only, Image, IsImage, Outcomes}
+use Rattle.disk_journal.specs.Disk.{Only, Cut, Image, IsImage, Outcomes}
 
 -- the bytes of `cells-journal-01`
 abbrev pub header : List ℕ
@@ -102,6 +102,11 @@ pub record CountsOwn (file before now before_file now_file : ℕ) : Type 0 where
 pub record IsMade (seen : Image) (may_leave : Outcomes) (file : ℕ) : Type 0 where
   pub content : seen file ≡ fresh
   pub durable : Only fresh (may_leave file)
+
+-- the files at a moment of a cut: of this one a content with less behind the size, and of the others what a crash might have left
+pub record IsShortened (may_leave : Outcomes) (file size : ℕ) (img : Image) : Type 0 where
+  pub this : (d : List ℕ) × may_leave file d × Cut size d (img file)
+  pub others : OthersStay may_leave file img
 
 -- The files at a moment of an opening: as a crash might have left them at its start, but that the journal's file may have lost what does not count.
 pub record IsOpening (may_leave : Outcomes) (file : ℕ) (img : Image) : Type 0 where

@@ -4,11 +4,13 @@
 mod disk;
 mod fault;
 mod journal;
+mod laws;
 mod memory;
 mod memory_file;
 mod records;
 
 pub use disk::{Disk, DiskFailed, FILE_BYTES};
 pub use fault::{JournalFault, MakeFault};
-pub use journal::Journal;
+pub use journal::{BODY_BYTES, Bodies, Journal, Opened, make};
+pub use laws::one_meaning;
 pub use memory::{FailingCall, MemoryDisk};

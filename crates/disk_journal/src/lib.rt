@@ -7,10 +7,12 @@ mod journal;
 mod laws;
 mod memory;
 mod memory_file;
+mod real;
 mod records;
 
 pub use disk::{Disk, DiskFailed, FILE_BYTES};
 pub use fault::{JournalFault, MakeFault};
 pub use journal::{BODY_BYTES, Bodies, Journal, Opened, make};
 pub use laws::one_meaning;
+pub use real::FileDisk;
 pub use memory::{FailingCall, MemoryDisk};

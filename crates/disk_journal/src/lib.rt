@@ -3,6 +3,7 @@
 
 mod disk;
 mod fault;
+mod fuse;
 mod journal;
 mod laws;
 mod memory;
@@ -12,6 +13,7 @@ mod records;
 
 pub use disk::{Disk, DiskFailed, FILE_BYTES};
 pub use fault::{JournalFault, MakeFault};
+pub use fuse::FuseDisk;
 pub use journal::{BODY_BYTES, Bodies, Journal, Opened, make};
 pub use laws::one_meaning;
 pub use real::FileDisk;

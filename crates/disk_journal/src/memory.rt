@@ -1,6 +1,6 @@
 ghost use Rattle.std.specs.Prelude.{◌≡◌, ◌≢◌, ◌+◌, ◌-◌, ◌≤◌, ◌<◌, ◌^◌, ◌++◌, [], ◌∷◌, ◌==◌, ℕ, List, true, false, Bool, IsTrue, ◌⊎◌, IfOk, OnOk, OnErr, Option, Some, None, position, map, slice_index_or, length, take, drop, replicate, vec_len};
 ghost use Rattle.disk_journal.specs.Memory.{FileState, IsConsistent, IsLeft, MayLeave, written_at, cut_to, flushed, crashed, left_by, state_of, no_file, Changes};
-ghost use Rattle.disk_journal.specs.Disk.{HasCause, IsImage, Only};
+ghost use Rattle.disk_journal.specs.Disk.{HasCause, RoseAt, IsImage, Only};
 
 use crate::memory_file::MemoryFile;
 use crate::{Disk, DiskFailed, FILE_BYTES};
@@ -104,7 +104,18 @@ impl MemoryDisk {
         fate_of(&self.failing, self.calls)
     }
 
-    // What a call answers that passed or not, and counts.
+    /// Counts a call on this file that failed.
+    pub(crate) fn fail(&mut self, file: u16) -> DiskFailed
+        ensures files { self.new.files.items ≡ self.old.files.items }
+        ensures rose { RoseAt file self.old.faults self.new.faults self.new.last_fault }
+        ensures later { self.old.faults ≤ self.new.faults }
+    {
+        self.faults = self.faults.saturating_add(1);
+        self.last_fault = file;
+        DiskFailed
+    }
+
+    // What a call answers that passed or not.
     fn answer(&mut self, file: u16, passed: bool) -> Result<(), DiskFailed>
         ensures files { self.new.files.items ≡ self.old.files.items }
         ensures cause { HasCause file self.old.faults self.new.faults self.old.last_fault self.new.last_fault result }
@@ -113,13 +124,11 @@ impl MemoryDisk {
         if passed {
             return Ok(());
         }
-        self.faults = self.faults.saturating_add(1);
-        self.last_fault = file;
-        Err(DiskFailed)
+        Err(self.fail(file))
     }
 
-    // The write itself, where there is room.
-    fn put(&mut self, file: u16, at: u64, bytes: &[u8]) -> bool
+    /// The write itself, where there is room.
+    pub(crate) fn put(&mut self, file: u16, at: u64, bytes: &[u8]) -> bool
         requires { at ≤ length (state_of self.old.files.items file).seen }
         ensures faults { self.new.faults ≡ self.old.faults }
         ensures last { self.new.last_fault ≡ self.old.last_fault }
@@ -138,7 +147,8 @@ impl MemoryDisk {
         target.write(at as usize, bytes)
     }
 
-    fn shorten(&mut self, file: u16, size: u64)
+    /// The cut itself.
+    pub(crate) fn shorten(&mut self, file: u16, size: u64)
         requires { size ≤ length (state_of self.old.files.items file).seen }
         ensures faults { self.new.faults ≡ self.old.faults }
         ensures last { self.new.last_fault ≡ self.old.last_fault }

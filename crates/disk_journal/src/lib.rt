@@ -18,3 +18,6 @@ pub use journal::{BODY_BYTES, Bodies, Journal, Opened, make};
 pub use laws::one_meaning;
 pub use real::FileDisk;
 pub use memory::{FailingCall, MemoryDisk};
+
+#[cfg(test)]
+mod tests;

@@ -147,7 +147,7 @@ from_flush s c (inl seen) = seen
 from_flush s c (inr left) =
     let long = length-replicate (length s.seen) false in
     same_lists c s.seen (omega (arith, left.least, left.most, long)) (λ k d lt.
-        get_or_default c k d 0 lt ∙ left.kept k lt (get_or-replicate (length s.seen) k false false (omega (arith, left.most, long))) ∙ get_or_default s.seen k 0 d (omega (arith, left.most, long)))
+    get_or_default c k d 0 lt ∙ left.kept k lt (get_or-replicate (length s.seen) k false false (omega (arith, left.most, long))) ∙ get_or_default s.seen k 0 d (omega (arith, left.most, long)))
 
 abbrev pub seen_of : List FileState → Image
 seen_of files f = (state_of files f).seen

@@ -10,9 +10,12 @@ use Rattle.disk_journal.proofs.Reading.{one_meaning}
 pub cut_keeps : (bytes c : List ℕ) (gate : ℕ) (bodies : List (List ℕ)) → IsAtRest (take (gate + 1) bytes) gate bodies → gate < length bytes → Cut (gate + 1) bytes c → IsJournal c bodies
 cut_keeps bytes c gate bodies rest within cut =
     let long : gate + 1 ≤ length c = omega (arith, cut.no_shorter) in
-    let front : take (gate + 1) c ≡ header ++ rest.front ++ 0 ∷ [] = ap (take (gate + 1)) (sym cut.front) ∙ take-take (gate + 1) (length c) bytes long ∙ rest.file in
-    (rest.front, drop (gate + 1) c, rest.records,
-      sym (take-append-drop (gate + 1) c) ∙ ap (λ (l : List ℕ). l ++ drop (gate + 1) c) front ∙ append_assoc (header ++ rest.front) (0 ∷ []) (drop (gate + 1) c))
+    let front : take (gate + 1) c ≡ header ++ rest.front ++ 0 ∷ [] = ap (take (gate + 1)) (sym cut.front) ∙ take-take (gate + 1) (length c) bytes long ∙ rest.file in (
+      rest.front,
+      drop (gate + 1) c,
+      rest.records,
+      sym (take-append-drop (gate + 1) c) ∙ ap (λ (l : List ℕ). l ++ drop (gate + 1) c) front ∙ append_assoc (header ++ rest.front) (0 ∷ []) (drop (gate + 1) c),
+    )
 
 module _ {D : Type 0} (moment : D → ℕ) (left_since : D → ℕ → Image → Type 0) (seen : D → Image) (may_leave : D → Outcomes)
     (only_now : (d : D) (img : Image) → left_since d (moment d) img → IsImage (may_leave d) img)

@@ -47,9 +47,9 @@ take_overlaid at ys xs size n le within fits is =
     let long_all = length-take n (overlaid at ys xs) in
     let long_left : length (take n (overlaid at ys xs)) ≡ n = omega arith in
     same_lists _ _ (omega arith) (λ k d lt.
-        let below : k < n = omega arith in
-        get_or-take n (overlaid at ys xs) k d below ∙ elim (three_parts at (length ys) k) [
-        | inl before ↦ overlaid_before at ys xs le_xs k d before ∙ sym (overlaid_before at ys (take size xs) le_front k d before ∙ get_or-take size xs k d (omega arith))
-        | inr (inl within2) ↦ overlaid_within at ys xs le_xs k d within2.0 within2.1 ∙ sym (overlaid_within at ys (take size xs) le_front k d within2.0 within2.1)
-        | inr (inr behind) ↦ overlaid_behind at ys xs le_xs k d behind ∙ sym (overlaid_behind at ys (take size xs) le_front k d behind ∙ get_or-take size xs k d (omega arith))
-      ])
+    let below : k < n = omega arith in
+    get_or-take n (overlaid at ys xs) k d below ∙ elim (three_parts at (length ys) k) [
+      | inl before ↦ overlaid_before at ys xs le_xs k d before ∙ sym (overlaid_before at ys (take size xs) le_front k d before ∙ get_or-take size xs k d (omega arith))
+      | inr (inl within2) ↦ overlaid_within at ys xs le_xs k d within2.0 within2.1 ∙ sym (overlaid_within at ys (take size xs) le_front k d within2.0 within2.1)
+      | inr (inr behind) ↦ overlaid_behind at ys xs le_xs k d behind ∙ sym (overlaid_behind at ys (take size xs) le_front k d behind ∙ get_or-take size xs k d (omega arith))
+    ])

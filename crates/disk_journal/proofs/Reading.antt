@@ -105,7 +105,7 @@ one_place bytes a b (inl (za, oa)) (inr x) = absurd (begins bytes x.front x.gate
 one_place bytes a b (inr x) (inl (zb, ob)) = absurd (begins bytes x.front x.gate x.behind x.file ob)
 one_place bytes a b (inr x) (inr y) =
     let same = broken_once x.bodies y.bodies x.front y.front x.gate y.gate x.behind y.behind x.no_record y.no_record x.records y.records
-        (past_header _ _ (sym (x.file ∙ append_assoc header x.front (x.gate ∷ x.behind)) ∙ y.file ∙ append_assoc header y.front (y.gate ∷ y.behind))) in
+    (past_header _ _ (sym (x.file ∙ append_assoc header x.front (x.gate ∷ x.behind)) ∙ y.file ∙ append_assoc header y.front (y.gate ∷ y.behind))) in
     omega (arith, same, x.long, y.long)
 
 -- the first bytes, up to this gate, are the header and the records of these bodies
@@ -125,8 +125,15 @@ module _ (bytes : List ℕ) (gate : ℕ) (bodies : List (List ℕ)) (read : IsRe
 
   pub read_broken : get_or bytes gate 0 ≢ 0 → ((body : List ℕ) → IsRecord body (drop (gate + 1) bytes) → ⊥) → IsRefused bytes gate
   read_broken is_open none = inr (record {
-    bodies = bodies; front = read.front; gate = get_or bytes gate 0; behind = drop (gate + 1) bytes;
-    records = read.records; long = read.long; file = whole; is_open = is_open; no_record = none;
+    bodies = bodies;
+    front = read.front;
+    gate = get_or bytes gate 0;
+    behind = drop (gate + 1) bytes;
+    records = read.records;
+    long = read.long;
+    file = whole;
+    is_open = is_open;
+    no_record = none;
   })
 
   pub read_end : get_or bytes gate 0 ≡ 0 → IsJournal bytes bodies
@@ -134,7 +141,9 @@ module _ (bytes : List ℕ) (gate : ℕ) (bodies : List (List ℕ)) (read : IsRe
 
   pub read_rest : get_or bytes gate 0 ≡ 0 → IsAtRest (take (gate + 1) bytes) gate bodies
   read_rest closed = record {
-    front = read.front; records = read.records; long = read.long;
+    front = read.front;
+    records = read.records;
+    long = read.long;
     file = take_more bytes gate 0 read.within ∙ ap (λ (l : List ℕ). l ++ get_or bytes gate 0 ∷ []) read.start ∙ ap (λ g. header ++ read.front ++ g ∷ []) closed;
   }
 
@@ -173,11 +182,16 @@ module _ (a b c d : ℕ) (rest : List ℕ) where
   a_body bytes low high short =
       let long : length (take length_of rest) ≡ length_of = omega (arith, length-take length_of rest) in
       let head : to_be_bytes w32 length_of ≡ a ∷ b ∷ c ∷ d ∷ [] = be_bytes_4 (a ∷ b ∷ c ∷ d ∷ []) length_of refl bytes refl in
-      let tail : rest ≡ take length_of rest ++ get_or rest length_of 0 ∷ drop (length_of + 1) rest = sym (take-append-drop length_of rest) ∙ ap (λ (l : List ℕ). take length_of rest ++ l) (drop_more rest length_of 0 short) in
-      ((omega (arith, long, low), omega (arith, long, high)), (get_or rest length_of 0, drop (length_of + 1) rest,
-        ap (λ (l : List ℕ). a ∷ b ∷ c ∷ d ∷ l) tail
-        ∙ ap (λ (l : List ℕ). l ++ (take length_of rest ++ get_or rest length_of 0 ∷ drop (length_of + 1) rest)) (sym head ∙ ap (to_be_bytes w32) (sym long))
-        ∙ sym (append_assoc (to_be_bytes w32 (length (take length_of rest))) (take length_of rest) (get_or rest length_of 0 ∷ drop (length_of + 1) rest))))
+      let tail : rest ≡ take length_of rest ++ get_or rest length_of 0 ∷ drop (length_of + 1) rest = sym (take-append-drop length_of rest) ∙ ap (λ (l : List ℕ). take length_of rest ++ l) (drop_more rest length_of 0 short) in (
+        (omega (arith, long, low), omega (arith, long, high)),
+        (
+          get_or rest length_of 0,
+          drop (length_of + 1) rest,
+          ap (λ (l : List ℕ). a ∷ b ∷ c ∷ d ∷ l) tail
+              ∙ ap (λ (l : List ℕ). l ++ (take length_of rest ++ get_or rest length_of 0 ∷ drop (length_of + 1) rest)) (sym head ∙ ap (to_be_bytes w32) (sym long))
+              ∙ sym (append_assoc (to_be_bytes w32 (length (take length_of rest))) (take length_of rest) (get_or rest length_of 0 ∷ drop (length_of + 1) rest)),
+        ),
+      )
 
 four : (behind : List ℕ) → 4 ≤ length behind → behind ≡ get_or behind 0 0 ∷ get_or behind 1 0 ∷ get_or behind 2 0 ∷ get_or behind 3 0 ∷ drop 4 behind
 four [] le = absurd (omega arith)

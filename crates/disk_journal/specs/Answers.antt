@@ -13,6 +13,13 @@ Refuses (Err (NotAJournal at)) bytes = IsRefused bytes at
 Refuses (Err Failed) bytes = Unit {0}
 Refuses (Err Memory) bytes = Unit {0}
 
+-- a refusal, and one for want of memory, changes nothing
+abbrev pub Stays : {X : Type 0} → Result X JournalFault → Type 0 → Type 0
+Stays (Ok x) same = Unit {0}
+Stays (Err (NotAJournal at)) same = same
+Stays (Err Failed) same = Unit {0}
+Stays (Err Memory) same = same
+
 -- a file of some size is in use, and one of size 0 is not
 abbrev pub IsFree : Result (Unit {0}) MakeFault → ℕ → Type 0
 IsFree (Ok x) size = size ≡ 0

@@ -3,3 +3,4 @@ pub mod Journal
 pub mod Memory
 pub mod Inside
 pub mod Answers
+pub mod Failing

@@ -72,9 +72,13 @@ with_seen bytes s = record { number = s.number; seen = bytes; synced = s.synced;
 abbrev pub crashed : ℕ → FileState → FileState
 crashed pick s = flushed (with_seen (left_by pick s) s)
 
+-- an empty file with this room and number
+abbrev pub empty_file : ℕ → ℕ → FileState
+empty_file room number = record { number = number; seen = []; synced = []; written = []; low = 0; room = room }
+
 -- a file that the disk does not have
 abbrev pub no_file : FileState
-no_file = record { number = 0; seen = []; synced = []; written = []; low = 0; room = 0 }
+no_file = empty_file 0 0
 
 -- the file with this number
 abbrev pub state_of : List FileState → ℕ → FileState

@@ -1,7 +1,7 @@
 ghost use Rattle.std.specs.Prelude.{◌≡◌, ◌≢◌, ◌+◌, ◌≤◌, ◌<◌, ◌^◌, ◌++◌, [], ◌∷◌, List, ℕ, Bool, IsTrue, true, false, length, take, Ok, Err, IfOk, OnOk, OnErr, IsErrOf, vec_len, vec_capacity};
 ghost use Rattle.disk_journal.specs.Disk.{LeavesOnly, NoMore, SameEverywhere, IsImage, Only, Steps, Cut};
 ghost use Rattle.disk_journal.specs.Journal.{JournalState, HasBodies, IsSettled, IsMade, IsBody, IsBeforeOrAfter, IsOpening, IsShortened, OthersStay, StaysElsewhere, RoseOwn, CountsOwn, framed};
-ghost use Rattle.disk_journal.specs.Answers.{Refuses, IsFree};
+ghost use Rattle.disk_journal.specs.Answers.{Refuses, Stays, IsFree};
 ghost use Rattle.disk_journal.specs.declared.disk.TheConstants.{FILE_BYTES};
 ghost use Rattle.disk_journal.specs.declared.fault.JournalFault.TheVariants.{Failed};
 ghost use Rattle.disk_journal.specs.declared.fault.MakeFault.TheVariants.{FileInUse, Failed as MakeFailed};
@@ -127,6 +127,7 @@ impl Journal {
         ensures live { IfOk result (λ opened. opened.journal.live ≡ true) }
         ensures file { IfOk result (λ opened. opened.journal.file ≡ file) }
         ensures refused { IsTrue D.tells → Refuses result (D.seen disk.old file) }
+        ensures stays { IsTrue D.tells → Stays result (SameEverywhere (D.seen disk.old) (D.seen disk.new) × NoMore (D.may_leave disk.old) (D.may_leave disk.new)) }
         ensures keeps { IsTrue D.tells → (bodies : List (List ℕ)) → HasBodies (D.seen disk.old) file bodies → HasBodies (D.seen disk.new) file bodies }
         ensures any_moment { IsTrue D.tells → LeavesOnly D.moment D.left_since disk.old disk.new (IsOpening (D.may_leave disk.old) file) }
         ensures elsewhere { IsTrue D.tells → StaysElsewhere file (D.seen disk.old) (D.seen disk.new) (D.may_leave disk.old) (D.may_leave disk.new) }
@@ -177,9 +178,9 @@ impl Journal {
         self.live = false;
         fill(&mut self.buffer, body);
         disk.write_at(self.file, self.gate + 1, &self.buffer)?;
-        disk.sync(self.file)?;
+        disk.sync(self.file)?; // The record stands before its gate opens.
         disk.write_at(self.file, self.gate, &[1])?;
-        disk.sync(self.file)?;
+        disk.sync(self.file)?; // The open gate stands before the answer.
         self.gate += 5 + body.len() as u64;
         self.live = true;
         Ok(())

@@ -8,5 +8,4 @@ pub fn one_meaning()
     ensures refused { (bytes : List ℕ) (at : ℕ) (bodies : List (List ℕ)) → IsRefused bytes at → IsJournal bytes bodies → ⊥ }
     ensures place { (bytes : List ℕ) (a b : ℕ) → IsRefused bytes a → IsRefused bytes b → a ≡ b }
     ensures fresh { IsJournal fresh [] × (length fresh ≡ 17) }
-{
-}
+{}

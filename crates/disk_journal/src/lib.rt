@@ -16,8 +16,8 @@ pub use fault::{JournalFault, MakeFault};
 pub use fuse::FuseDisk;
 pub use journal::{BODY_BYTES, Bodies, Journal, Opened, make};
 pub use laws::one_meaning;
-pub use real::FileDisk;
 pub use memory::{FailingCall, MemoryDisk};
+pub use real::FileDisk;
 
 #[cfg(test)]
 mod tests;

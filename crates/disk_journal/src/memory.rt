@@ -1,5 +1,8 @@
-ghost use Rattle.std.specs.Prelude.{◌≡◌, ◌≢◌, ◌+◌, ◌-◌, ◌≤◌, ◌<◌, ◌^◌, ◌++◌, [], ◌∷◌, ◌==◌, ℕ, List, true, false, Bool, IsTrue, ◌⊎◌, IfOk, OnOk, OnErr, Option, Some, None, position, map, slice_index_or, length, take, drop, replicate, vec_len};
-ghost use Rattle.disk_journal.specs.Memory.{FileState, IsConsistent, IsLeft, MayLeave, written_at, cut_to, flushed, crashed, left_by, state_of, no_file, Changes};
+ghost use Rattle.std.specs.Prelude.{◌≡◌, ◌≢◌, ◌+◌, ◌-◌, ◌≤◌, ◌<◌, ◌^◌, ◌++◌, [], ◌∷◌, ◌==◌, ℕ, min, List, true, false, Bool, IsTrue, ◌⊎◌, IfOk, OnOk, OnErr, Option, Some, None, position, map, slice_index_or, length, take, drop, replicate, vec_len};
+ghost use Rattle.disk_journal.specs.Memory.{FileState, IsConsistent, IsLeft, MayLeave, written_at, cut_to, flushed, crashed, left_by, state_of, empty_file, no_file, Changes};
+ghost use Rattle.std.specs.List.{find};
+ghost use Rattle.disk_journal.specs.declared.memory.FailingCall.{FailingCall};
+ghost use Rattle.disk_journal.specs.Failing.{fate_at};
 ghost use Rattle.disk_journal.specs.Disk.{HasCause, RoseAt, IsImage, Only};
 
 use crate::memory_file::MemoryFile;
@@ -35,8 +38,17 @@ pub struct MemoryDisk {
     last_fault: u16,
 }
 
-fn fate_of(failing: &[FailingCall], call: u64) -> Fate {
-    match failing.iter().find(|it| it.call == call) {
+// What the list says of a call.
+fn named(failing: &[FailingCall], call: u64) -> Option<FailingCall>
+    ensures { result ≡ find (λ (it : FailingCall). it.call == call) failing.now }
+{
+    failing.iter().copied().find(|it| it.call == call)
+}
+
+fn fate_of(failing: &[FailingCall], call: u64) -> Fate
+    ensures { result ≡ fate_at failing.now call }
+{
+    match named(failing, call) {
         Some(found) if found.done => Fate::FailsDone,
         Some(_) => Fate::FailsIdle,
         None => Fate::Passes,
@@ -44,6 +56,7 @@ fn fate_of(failing: &[FailingCall], call: u64) -> Fate {
 }
 
 fn empty_files(alloc: Global, numbers: &[u16], room: usize) -> Result<Vec<MemoryFile>, NoMemory>
+    ensures { IfOk result (λ files. files.items ≡ map (empty_file room) numbers.now) }
 {
     let mut files = Vec::with_capacity(alloc, numbers.len())?;
     for number in numbers {
@@ -63,7 +76,16 @@ fn crash_each(files: &mut [MemoryFile], pick: u64)
 
 impl MemoryDisk {
     /// A disk with these files, all empty, each with this room in bytes, on which these calls fail.
-    pub fn new(alloc: Global, numbers: &[u16], room: usize, failing: Vec<FailingCall>) -> Result<Self, NoMemory> {
+    pub fn new(
+        alloc: Global,
+        numbers: &[u16],
+        room: usize,
+        failing: Vec<FailingCall>,
+    ) -> Result<Self, NoMemory>
+        ensures files { IfOk result (λ disk. disk.files.items ≡ map (empty_file room) numbers.now) }
+        ensures failing { IfOk result (λ disk. disk.failing.items ≡ failing.items) }
+        ensures calls { IfOk result (λ disk. disk.calls ≡ 0) }
+    {
         Ok(MemoryDisk {
             files: empty_files(alloc, numbers, room)?,
             failing,
@@ -96,6 +118,9 @@ impl MemoryDisk {
     }
 
     fn next_fate(&mut self) -> Fate
+        ensures fate { result ≡ fate_at self.old.failing.items (min (self.old.calls + 1) (2 ^ 64 - 1)) }
+        ensures failing { self.new.failing.items ≡ self.old.failing.items }
+        ensures calls { self.new.calls ≡ min (self.old.calls + 1) (2 ^ 64 - 1) }
         ensures files { self.new.files.items ≡ self.old.files.items }
         ensures faults { self.new.faults ≡ self.old.faults }
         ensures last { self.new.last_fault ≡ self.old.last_fault }

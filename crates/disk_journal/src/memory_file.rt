@@ -1,5 +1,5 @@
 ghost use Rattle.std.specs.Prelude.{◌≡◌, ◌+◌, ◌≤◌, ◌<◌, ◌-◌, ◌++◌, [], ◌∷◌, ℕ, List, true, false, Bool, IsTrue, IfOk, length, take, drop, replicate, vec_len};
-ghost use Rattle.disk_journal.specs.Memory.{FileState, IsConsistent, overlaid, written_at, cut_to, flushed, IsLeft, left_by, with_seen, crashed, torn};
+ghost use Rattle.disk_journal.specs.Memory.{FileState, empty_file, IsConsistent, overlaid, written_at, cut_to, flushed, IsLeft, left_by, with_seen, crashed, torn};
 
 use cells_base::NoMemory;
 use std::alloc::Global;
@@ -86,7 +86,7 @@ fn tear(target: &mut Vec<u8>, size: usize, written: &[bool], byte: u8)
 impl MemoryFile {
     /// An empty file with this room.
     pub fn new(alloc: Global, number: u16, room: usize) -> Result<Self, NoMemory>
-        ensures { IfOk result (λ f. f ≡ record { number = number; seen = []; synced = []; written = []; low = 0; room = room }) }
+        ensures { IfOk result (λ f. f ≡ empty_file room number) }
     {
         Ok(MemoryFile {
             number,

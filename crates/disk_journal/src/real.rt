@@ -71,7 +71,11 @@ fn open_file<R: Files>(rt: &R, path: &str, makes: bool) -> io::Result<Option<R::
     match options(false).open(rt, path) {
         Ok(file) => Ok(Some(file)),
         Err(error) if error.kind() == ErrorKind::NotFound => {
-            if makes { Ok(Some(make_file(rt, path)?)) } else { Ok(None) }
+            if makes {
+                Ok(Some(make_file(rt, path)?))
+            } else {
+                Ok(None)
+            }
         }
         Err(error) => Err(error),
     }
@@ -89,7 +93,12 @@ fn write_path(path: &mut String, number: u16) -> io::Result<()> {
 }
 
 // What a call answers, and counts.
-fn counted<T: Drop>(faults: &mut u64, last_fault: &mut u16, file: u16, outcome: io::Result<T>) -> Result<T, DiskFailed>
+fn counted<T: Drop>(
+    faults: &mut u64,
+    last_fault: &mut u16,
+    file: u16,
+    outcome: io::Result<T>,
+) -> Result<T, DiskFailed>
     ensures cause { HasCause file faults.old faults.new last_fault.old last_fault.new result }
     ensures same { (v : T) → result ≡ Ok v → outcome ≡ Ok v }
 {

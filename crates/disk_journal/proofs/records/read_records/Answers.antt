@@ -12,7 +12,7 @@ returns-in_default-clause-refused c =
 pub loop-gate-preserved : goal.loop-gate-preserved
 loop-gate-preserved c =
     let more = read_more c.args.bytes.now c.loop-gate.gate c.loop-gate.bodies.items c.loop-gate.invariant c.in-Some.body.now c.loop-gate-test.true
-        (subst (IsRecord c.in-Some.body.now) (take_rest c.args.bytes.now (c.loop-gate.gate + 1)) c.in-Some.ensures) in
+    (subst (IsRecord c.in-Some.body.now) (take_rest c.args.bytes.now (c.loop-gate.gate + 1)) c.in-Some.ensures) in
     subst (IsReadUpTo c.args.bytes.now (c.loop-gate.gate + (5 + length c.in-Some.body.now))) (sym (◌∙◌ {A = List (List ℕ)} c.in_ok-push.ensures.items (ap (λ text. c.loop-gate.bodies.items ++ text ∷ []) c.in_ok-from_slice.ensures))) more
 
 pub returns-clause-bodies : goal.returns-clause-bodies

@@ -1,7 +1,7 @@
 -- The four calls of an append, over the disks before and after each.
-use Rattle.std.proofs.Common.{◌≡◌, ◌≢◌, ◌≤◌, ◌<◌, inl, inr, ℕ, ◌+◌, List, [], ◌∷◌, ◌++◌, length, refl, sym, ◌∙◌, ap, subst, arith, append_assoc, length-append}
+use Rattle.std.proofs.Common.{◌≡◌, inl, ℕ, ◌+◌, List, [], ◌∷◌, ◌++◌, length, sym, ◌∙◌, subst, arith, length-append}
 use Rattle.disk_journal.specs.Disk.{Image, Outcomes, IsImage, NoMore, Only, Steps, SameEverywhere, Holds, Torn, Elapses, LeavesOnly}
-use Rattle.disk_journal.specs.Journal.{header, framed, IsBody, IsJournal, JournalState, IsAtRest, IsSettled, IsBeforeOrAfter}
+use Rattle.disk_journal.specs.Journal.{header, framed, IsBody, JournalState, IsAtRest, IsSettled, IsBeforeOrAfter}
 use Rattle.disk_journal.proofs.Moments.{UpTo, started, goes_on, no_more}
 use Rattle.disk_journal.proofs.Writing.{length-framed, records_push, torn_behind, written_behind, torn_gate, written_gate, longer, any_gate}
 

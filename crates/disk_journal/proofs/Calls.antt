@@ -1,10 +1,10 @@
 -- What the calls of a disk in memory do to what a read gives and to what a crash may leave.
-use Rattle.std.proofs.Common.{◌≡◌, ◌≢◌, ◌⊎◌, inl, inr, ⊎_elim, Bool, true, false, cond, ℕ, zero, suc, ◌+◌, ◌-◌, ◌≤◌, ◌<◌, min, max, List, [], ◌∷◌, ◌++◌, length, take, drop, get_or, replicate, refl, sym, ◌∙◌, ap, subst, arith, length-append, length-take, length-drop}
-use Rattle.std.proofs.lemmas.List.{get_or-take, get_or-drop, get_or_append_left, get_or-append_right, get_or-replicate, length-replicate, same_lists, take_at, take_all, get_or_past, get_or_default}
-use Rattle.std.proofs.lemmas.Bool.{cases_eq, cases_lt}
-use Rattle.disk_journal.specs.Disk.{Image, IsImage, Torn, Cut, Steps, NoMore, SameElsewhere, SameEverywhere, Elapses, Only, Holds}
+use Rattle.std.proofs.Common.{◌≡◌, ◌⊎◌, inl, inr, Bool, true, false, cond, ℕ, zero, suc, ◌+◌, ◌-◌, ◌≤◌, ◌<◌, min, max, List, [], ◌∷◌, ◌++◌, length, take, drop, get_or, replicate, refl, sym, ◌∙◌, ap, subst, arith, length-append, length-take, length-drop}
+use Rattle.std.proofs.lemmas.List.{get_or-take, get_or-drop, get_or_append_left, get_or-append_right, get_or-replicate, length-replicate, same_lists, take_at, take_all, get_or_default}
+use Rattle.std.proofs.lemmas.Bool.{cases_lt}
+use Rattle.disk_journal.specs.Disk.{Image, Torn, Cut, Steps}
 use Rattle.disk_journal.specs.Memory.{FileState, IsConsistent, IsLeft, MayLeave, overlaid, written_at, cut_to, flushed, state_of, Changes}
-use Rattle.disk_journal.proofs.Overlaid.{length-overlaid, overlaid_before, overlaid_within, overlaid_behind}
+use Rattle.disk_journal.proofs.Overlaid.{length-overlaid, overlaid_before, overlaid_behind}
 
 torn_overlaid : (at : ℕ) (bytes old : List ℕ) → at ≤ length old → Torn at (length bytes) old (overlaid at bytes old)
 torn_overlaid at bytes old le =

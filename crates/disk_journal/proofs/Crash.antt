@@ -1,6 +1,6 @@
 -- The files of a disk in memory after a crash.
-use Rattle.std.proofs.Common.{◌≡◌, ◌≢◌, ◌⊎◌, inl, inr, Bool, true, false, cond, ◌==◌, if◌then◌else◌, ℕ, zero, suc, ◌+◌, ◌-◌, ◌≤◌, ◌<◌, ◌%◌, List, [], ◌∷◌, ◌++◌, map, length, get_or, set, take, drop, replicate, refl, sym, ◌∙◌, ap, subst, arith, append_assoc, length-append, length-take}
-use Rattle.std.proofs.lemmas.List.{drop_more, take_more, map_push, set_at, get_or_at, length-map, take_at, take-append-le, take_all}
+use Rattle.std.proofs.Common.{◌≡◌, inl, inr, Bool, true, false, cond, ◌==◌, if◌then◌else◌, ℕ, zero, suc, ◌+◌, ◌-◌, ◌<◌, ◌%◌, List, [], ◌∷◌, ◌++◌, map, length, get_or, set, take, drop, replicate, refl, sym, ◌∙◌, ap, subst, arith, append_assoc, length-take}
+use Rattle.std.proofs.lemmas.List.{drop_more, take_more, map_push, set_at, get_or_at, length-map, take_at}
 use Rattle.disk_journal.specs.Disk.{IsImage}
 use Rattle.disk_journal.specs.Memory.{FileState, IsLeft, MayLeave, left_by, crashed, torn, flushed, with_seen, no_file, state_of}
 use Rattle.disk_journal.proofs.Calls.{from_flush}

@@ -1,5 +1,5 @@
 -- What a write makes of a file in memory.
-use Rattle.std.proofs.Common.{◌≡◌, ◌≢◌, ◌⊎◌, inl, inr, ⊎_elim, Bool, true, false, ℕ, ◌+◌, ◌-◌, ◌≤◌, ◌<◌, min, max, List, [], ◌∷◌, ◌++◌, length, take, drop, get_or, replicate, refl, sym, ◌∙◌, ap, subst, arith, length-append, length-take, length-drop, Vec, vec_len}
+use Rattle.std.proofs.Common.{◌≡◌, inl, inr, Bool, true, false, ℕ, ◌+◌, ◌-◌, ◌≤◌, max, List, length, take, get_or, replicate, sym, ◌∙◌, ap, subst, arith, length-take, Vec, vec_len}
 use Rattle.std.proofs.lemmas.List.{length-replicate, get_or-replicate}
 use Rattle.disk_journal.specs.Memory.{FileState, IsConsistent, overlaid, written_at}
 use Rattle.std.specs.declared.alloc.Global.{Global}

@@ -1,8 +1,8 @@
 -- The calls of an opening, and those that make a journal, over the disks before and after each.
-use Rattle.std.proofs.Common.{◌≡◌, ◌≢◌, ◌≤◌, ◌<◌, inl, inr, ℕ, ◌+◌, min, List, [], ◌∷◌, ◌++◌, length, take, drop, refl, sym, ◌∙◌, ap, subst, arith, append_assoc, length-append, take-append-drop, length-take}
-use Rattle.std.proofs.lemmas.List.{take-take, take_all, nil_from_length, append-nil}
+use Rattle.std.proofs.Common.{◌≡◌, ◌≤◌, ◌<◌, ℕ, ◌+◌, List, [], ◌∷◌, ◌++◌, length, take, drop, sym, ◌∙◌, ap, subst, arith, append_assoc, take-append-drop}
+use Rattle.std.proofs.lemmas.List.{take-take, take_all, nil_from_length}
 use Rattle.disk_journal.specs.Disk.{Image, Outcomes, IsImage, NoMore, Only, Steps, SameEverywhere, Holds, Torn, Cut, Elapses, LeavesOnly}
-use Rattle.disk_journal.specs.Journal.{header, fresh, IsJournal, HasBodies, JournalState, IsAtRest, IsSettled, IsMade, IsOpening, IsShortened, OthersStay}
+use Rattle.disk_journal.specs.Journal.{header, fresh, IsJournal, HasBodies, IsAtRest, IsMade, IsOpening, IsShortened, OthersStay}
 use Rattle.disk_journal.proofs.Moments.{UpTo, started, goes_on, no_more, joins, weaker}
 use Rattle.disk_journal.proofs.Reading.{one_meaning}
 

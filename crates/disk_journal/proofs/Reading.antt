@@ -1,9 +1,9 @@
 -- Reading the records of a journal, and that its bytes have one meaning.
-use Rattle.std.proofs.Common.{◌≡◌, ◌≢◌, ◌⊎◌, inl, inr, ℕ, zero, suc, ◌+◌, ◌-◌, ◌^◌, ◌≤◌, ◌<◌, List, [], ◌∷◌, ◌++◌, length, take, drop, get_or, refl, sym, ◌∙◌, ap, subst, arith, append_assoc, length-append, length-take, length-drop, take-append-drop, lit<}
+use Rattle.std.proofs.Common.{◌≡◌, ◌≢◌, ◌⊎◌, inl, inr, ℕ, zero, suc, ◌+◌, ◌-◌, ◌≤◌, ◌<◌, List, [], ◌∷◌, ◌++◌, length, take, drop, get_or, refl, sym, ◌∙◌, ap, subst, arith, append_assoc, length-append, length-take, length-drop, take-append-drop}
 use Rattle.std.specs.Int.{w32, to_be_bytes, from_be_bytes}
 use Rattle.std.proofs.lemmas.Nat.{from_be_bytes-to_be_bytes_4, be_bytes_4}
-use Rattle.std.proofs.lemmas.List.{take_at, drop_at, drop_more, take_more, take_all, take_rest}
-use Rattle.disk_journal.specs.Journal.{header, framed, IsBody, AreRecords, IsJournal, IsRecord, IsBrokenAt, IsRefused, IsAtRest}
+use Rattle.std.proofs.lemmas.List.{take_at, drop_at, drop_more, take_more, take_rest}
+use Rattle.disk_journal.specs.Journal.{header, framed, IsBody, AreRecords, IsJournal, IsRecord, IsRefused, IsAtRest}
 use Rattle.disk_journal.proofs.Writing.{records_push, longer, length-framed}
 
 one_length : (n m : ℕ) → n ≤ 65536 → m ≤ 65536 → to_be_bytes w32 n ≡ to_be_bytes w32 m → n ≡ m

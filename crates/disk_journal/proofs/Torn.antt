@@ -1,5 +1,5 @@
 -- The bytes that a crash leaves where it tears what was written.
-use Rattle.std.proofs.Common.{◌≡◌, ◌≢◌, inl, inr, Bool, true, false, cond, if◌then◌else◌, ℕ, zero, suc, ◌+◌, ◌≤◌, ◌<◌, List, [], ◌∷◌, ◌++◌, length, get_or, set, take, drop, refl, sym, ◌∙◌, ap, subst, arith, append_assoc, length-append, length-take, Vec, vec_len, ◌==◌, ◌%◌, ◌-◌, replicate}
+use Rattle.std.proofs.Common.{◌≡◌, ◌≢◌, Bool, false, cond, if◌then◌else◌, ℕ, zero, suc, ◌+◌, ◌≤◌, ◌<◌, List, [], ◌∷◌, ◌++◌, length, get_or, take, drop, refl, sym, ◌∙◌, ap, subst, arith, append_assoc, Vec, vec_len, ◌==◌, ◌%◌, ◌-◌, replicate}
 use Rattle.std.proofs.lemmas.List.{drop_more, take-take, take_at}
 use Rattle.std.proofs.lemmas.Bool.Decides.{nat_tests}
 use Rattle.std.specs.declared.alloc.Global.{Global}

@@ -1,5 +1,5 @@
 -- The fields of a file in memory, and what they stand for.
-use Rattle.std.specs.Prelude.{◌≡◌, ℕ, ◌≤◌, ◌<◌, ◌^◌, take, length, vec_len}
+use Rattle.std.specs.Prelude.{◌≡◌, ◌≤◌, take, vec_len}
 use Rattle.disk_journal.specs.declared.memory_file.MemoryFile.TheInside.{Inside}
 use Rattle.disk_journal.specs.Memory.{FileState, IsConsistent}
 

@@ -1,5 +1,5 @@
-use Rattle.std.proofs.Common.{◌≡◌, ◌∙◌, sym, ap, length, arith}
-use Rattle.disk_journal.proofs.Opening.{during_fresh, during_make, made}
+use Rattle.std.proofs.Common.{◌∙◌, sym, ap, length}
+use Rattle.disk_journal.proofs.Opening.{during_make, made}
 use Rattle.disk_journal.proofs.journal.make.Goals as goal
 
 pub returns-in_err-sync-clause-any_moment : goal.returns-in_err-sync-clause-any_moment

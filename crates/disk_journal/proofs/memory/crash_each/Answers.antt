@@ -1,5 +1,5 @@
-use Rattle.std.proofs.Common.{◌<◌, ◌+◌, ◌≡◌, ◌∙◌, ap, sym, subst, below_more, arith}
-use Rattle.disk_journal.specs.Memory.{FileState, IsLeft, left_by, crashed}
+use Rattle.std.proofs.Common.{◌∙◌, ap, subst, below_more}
+use Rattle.disk_journal.specs.Memory.{IsLeft, left_by, crashed}
 use Rattle.disk_journal.proofs.Crash.{next_is, one_more}
 use Rattle.disk_journal.proofs.memory.crash_each.Goals as goal
 

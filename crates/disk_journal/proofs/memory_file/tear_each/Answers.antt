@@ -1,4 +1,4 @@
-use Rattle.std.proofs.Common.{◌+◌, take, drop, true, false, ap, ◌∙◌, sym, arith}
+use Rattle.std.proofs.Common.{◌+◌, take, drop, true, false, ap, ◌∙◌, arith}
 use Rattle.std.proofs.lemmas.List.{take_more, take_more_set, drop-set-lt}
 use Rattle.disk_journal.proofs.Torn.{torn_more}
 use Rattle.disk_journal.proofs.memory_file.tear_each.Goals as goal

@@ -1,6 +1,5 @@
-use Rattle.std.proofs.Common.{◌≡◌, ◌+◌, [], ◌∷◌, ◌++◌, length, ◌∙◌, subst, sym, refl, arith}
+use Rattle.std.proofs.Common.{◌+◌, ◌∙◌, subst, refl, arith}
 use Rattle.disk_journal.specs.Disk.{Holds}
-use Rattle.disk_journal.specs.Journal.{framed}
 use Rattle.disk_journal.proofs.Append.{during_write, during_sync, during_gate, during_all, settled}
 use Rattle.disk_journal.proofs.journal.Journal.append.Goals as goal
 

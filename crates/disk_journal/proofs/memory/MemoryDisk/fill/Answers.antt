@@ -1,6 +1,6 @@
-use Rattle.std.proofs.Common.{◌≡◌, ◌≤◌, ◌+◌, [], List, length, take, drop, refl, sym, subst, ap, ◌∙◌, arith}
-use Rattle.disk_journal.specs.Memory.{FileState, IsConsistent, no_file, state_of, written_at, cut_to, flushed}
-use Rattle.disk_journal.proofs.States.{found, not_found, put_back, stays, consistent_none, read_none}
+use Rattle.std.proofs.Common.{◌≤◌, ◌+◌, length, take, drop, sym, subst, ap, ◌∙◌}
+use Rattle.disk_journal.specs.Memory.{FileState, state_of}
+use Rattle.disk_journal.proofs.States.{found, not_found, read_none}
 use Rattle.disk_journal.proofs.memory.MemoryDisk.fill.Goals as goal
 
 pub read-requires : goal.read-requires

@@ -1,6 +1,6 @@
-use Rattle.std.proofs.Common.{◌≡◌, ◌≤◌, ◌+◌, [], List, length, take, drop, refl, sym, subst, ap, ◌∙◌, arith}
-use Rattle.disk_journal.specs.Memory.{FileState, IsConsistent, no_file, state_of, written_at, cut_to, flushed}
-use Rattle.disk_journal.proofs.States.{found, not_found, put_back, stays, consistent_none}
+use Rattle.std.proofs.Common.{length, sym, ap, ◌∙◌}
+use Rattle.disk_journal.specs.Memory.{FileState}
+use Rattle.disk_journal.proofs.States.{found, not_found}
 use Rattle.disk_journal.proofs.memory.MemoryDisk.len_of.Goals as goal
 
 pub returns-in-Some : goal.returns-in-Some

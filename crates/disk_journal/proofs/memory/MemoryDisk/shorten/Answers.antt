@@ -1,5 +1,5 @@
-use Rattle.std.proofs.Common.{◌≡◌, ◌≤◌, ◌+◌, [], List, length, take, drop, refl, sym, subst, ap, ◌∙◌, arith}
-use Rattle.disk_journal.specs.Memory.{FileState, IsConsistent, no_file, state_of, written_at, cut_to, flushed}
+use Rattle.std.proofs.Common.{◌≡◌, ◌≤◌, length, refl, sym, subst, ◌∙◌}
+use Rattle.disk_journal.specs.Memory.{FileState, IsConsistent, cut_to}
 use Rattle.disk_journal.proofs.States.{found, not_found, put_back, stays, consistent_none, cut_none}
 use Rattle.disk_journal.proofs.memory.MemoryDisk.shorten.Goals as goal
 

@@ -1,4 +1,4 @@
-use Rattle.std.proofs.Common.{◌≡◌, ◌≤◌, ◌+◌, length, sym, subst, ap, ◌∙◌, vec_len, arith}
+use Rattle.std.proofs.Common.{◌≤◌, length, sym, subst, ap, ◌∙◌, arith}
 use Rattle.disk_journal.specs.Memory.{FileState, written_at}
 use Rattle.disk_journal.proofs.Files.{state_written, kept_written}
 use Rattle.disk_journal.proofs.memory_file.MemoryFile.write.Goals as goal

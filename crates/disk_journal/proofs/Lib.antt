@@ -9,3 +9,4 @@ pub mod Calls
 pub mod Crash
 pub mod Reading
 pub mod Opening
+pub mod Settled

@@ -1,4 +1,4 @@
-ghost use Rattle.std.specs.Prelude.{◌≡◌, ◌≤◌, ◌⊎◌, ℕ, length};
+ghost use Rattle.std.specs.Prelude.{◌≡◌, ◌-◌, ◌≤◌, ◌<◌, ◌⊎◌, ◌↔◌, ℕ, IsTrue, false, length};
 ghost use Rattle.disk_journal.specs.Memory.{MayLeave, IsConsistent, Changes, written_at, cut_to, crashed, state_of};
 ghost use Rattle.disk_journal.specs.Disk.{IsImage, Only};
 
@@ -17,7 +17,11 @@ pub struct FuseDisk {
 
 impl FuseDisk {
     /// A disk that passes this many calls. `begun`: the first call after them is begun.
-    pub fn new(disk: MemoryDisk, passes: u64, begun: bool) -> Self {
+    pub fn new(disk: MemoryDisk, passes: u64, begun: bool) -> Self
+        ensures disk { result.disk ≡ disk }
+        ensures left { result.left ≡ passes }
+        ensures begun { result.begun ≡ begun }
+    {
         FuseDisk {
             disk,
             left: passes,
@@ -39,7 +43,9 @@ impl FuseDisk {
 
     // Whether the next call passes.
     fn passes(&mut self) -> bool
-        ensures { self.new.disk ≡ self.old.disk }
+        ensures disk { self.new.disk ≡ self.old.disk }
+        ensures left { self.new.left ≡ self.old.left - 1 }
+        ensures passes { IsTrue result ↔ (0 < self.old.left) }
     {
         if self.left == 0 {
             return false;
@@ -50,7 +56,9 @@ impl FuseDisk {
 
     // Whether the next call, which fails, is begun.
     fn begins(&mut self) -> bool
-        ensures { self.new.disk ≡ self.old.disk }
+        ensures disk { self.new.disk ≡ self.old.disk }
+        ensures begun { result ≡ self.old.begun }
+        ensures spent { self.new.begun ≡ false }
     {
         let begun = self.begun;
         self.begun = false;

@@ -1,7 +1,9 @@
 ghost use Rattle.disk_journal.specs.Journal.{IsBody};
 ghost use Rattle.std.specs.Prelude.{◌≤◌};
 
-use crate::{Bodies, Disk, FileDisk, FuseDisk, Journal, JournalFault, MemoryDisk, make};
+use crate::{
+    Bodies, Disk, FailingCall, FileDisk, FuseDisk, Journal, JournalFault, MemoryDisk, make,
+};
 use std::alloc::Global;
 use std::test::Fail;
 
@@ -112,6 +114,26 @@ fn a_stopped_append_leaves_one_body_or_both(rt: HostRuntime) -> Result<(), Fail>
             "call {call}, begun {begun}, pick {pick}"
         );
     }
+    Ok(())
+}
+
+// How many bodies are read, where the write of the gate fails, its work done or not. To make a journal takes
+// three calls, to open it five, and the gate is written in the third of the append.
+fn kept(alloc: Global, done: bool) -> Result<usize, Fail> {
+    let failing = vec![in alloc; FailingCall { call: 11, done }]?;
+    let mut disk = MemoryDisk::new(alloc, &[7], ROOM, failing)?;
+    make(&mut disk, 7)?;
+    let mut opened = Journal::open(alloc, &mut disk, 7)?;
+    if opened.journal.append(&mut disk, b"a").is_ok() || opened.journal.is_live() {
+        return Ok(9);
+    }
+    Ok(Journal::open(alloc, &mut disk, 7)?.bodies.len())
+}
+
+#[test]
+fn a_listed_call_fails_done_or_not(rt: HostRuntime) -> Result<(), Fail> {
+    assert_eq!(rt; kept(rt.alloc(), false)?, 0);
+    assert_eq!(rt; kept(rt.alloc(), true)?, 1);
     Ok(())
 }
 

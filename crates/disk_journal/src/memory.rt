@@ -1,7 +1,9 @@
-ghost use Rattle.std.specs.Prelude.{◌≡◌, ◌≢◌, ◌+◌, ◌-◌, ◌≤◌, ◌<◌, ◌^◌, ◌++◌, [], ◌∷◌, ◌==◌, ℕ, min, List, true, false, Bool, IsTrue, ◌⊎◌, IfOk, OnOk, OnErr, Option, Some, None, position, map, slice_index_or, length, take, drop, replicate, vec_len};
+ghost use Rattle.std.specs.Prelude.{◌≡◌, ◌≢◌, ◌+◌, ◌-◌, ◌≤◌, ◌<◌, ◌^◌, ◌++◌, [], ◌∷◌, ◌==◌, ℕ, min, List, true, false, Bool, IsTrue, ◌⊎◌, ◌↔◌, IfOk, OnOk, OnErr, Option, Some, None, position, map, slice_index_or, length, take, drop, replicate, vec_len};
 ghost use Rattle.disk_journal.specs.Memory.{FileState, IsConsistent, IsLeft, MayLeave, written_at, cut_to, flushed, crashed, left_by, state_of, empty_file, no_file, Changes};
 ghost use Rattle.std.specs.List.{find};
 ghost use Rattle.disk_journal.specs.declared.memory.FailingCall.{FailingCall};
+ghost use Rattle.std.specs.Result.{is_ok};
+ghost use Rattle.disk_journal.specs.declared.memory.Fate.TheVariants.{Passes};
 ghost use Rattle.disk_journal.specs.Failing.{fate_at};
 ghost use Rattle.disk_journal.specs.Disk.{HasCause, RoseAt, IsImage, Only};
 
@@ -144,7 +146,7 @@ impl MemoryDisk {
     fn answer(&mut self, file: u16, passed: bool) -> Result<(), DiskFailed>
         ensures files { self.new.files.items ≡ self.old.files.items }
         ensures cause { HasCause file self.old.faults self.new.faults self.old.last_fault self.new.last_fault result }
-        ensures ok { OnOk result (IsTrue passed) }
+        ensures ok { is_ok result ≡ passed }
     {
         if passed {
             return Ok(());
@@ -161,6 +163,7 @@ impl MemoryDisk {
         ensures fits { IsTrue result → at + length bytes.now ≤ FILE_BYTES }
         ensures done { IsTrue result → Changes file (written_at at bytes.now) self.old.files.items self.new.files.items }
         ensures full { result ≡ false → self.new.files.items ≡ self.old.files.items }
+        ensures no_room { result ≡ false → (state_of self.old.files.items file ≡ no_file) ⊎ (((state_of self.old.files.items file).room < at + length bytes.now) ⊎ (FILE_BYTES < at + length bytes.now)) }
     {
         if at.saturating_add(bytes.len() as u64) > FILE_BYTES {
             return false;
@@ -199,6 +202,7 @@ impl MemoryDisk {
 
     // Whether the next call passes. One that fails and changes nothing has done its work either way.
     fn passes(&mut self) -> bool
+        ensures passes { IsTrue result ↔ (fate_at self.old.failing.items (min (self.old.calls + 1) (2 ^ 64 - 1)) ≡ Passes) }
         ensures files { self.new.files.items ≡ self.old.files.items }
         ensures faults { self.new.faults ≡ self.old.faults }
         ensures last { self.new.last_fault ≡ self.old.last_fault }
@@ -209,6 +213,7 @@ impl MemoryDisk {
     // The same, where the call may be one that fails.
     fn try_put(&mut self, file: u16, at: u64, bytes: &[u8]) -> bool
         requires { at ≤ length (state_of self.old.files.items file).seen }
+        ensures cause { result ≡ false → (fate_at self.old.failing.items (min (self.old.calls + 1) (2 ^ 64 - 1)) ≢ Passes) ⊎ ((state_of self.old.files.items file ≡ no_file) ⊎ (((state_of self.old.files.items file).room < at + length bytes.now) ⊎ (FILE_BYTES < at + length bytes.now))) }
         ensures faults { self.new.faults ≡ self.old.faults }
         ensures last { self.new.last_fault ≡ self.old.last_fault }
         ensures work { (Changes file (written_at at bytes.now) self.old.files.items self.new.files.items × IsConsistent (state_of self.old.files.items file)) ⊎ (self.new.files.items ≡ self.old.files.items) }
@@ -227,6 +232,7 @@ impl MemoryDisk {
 
     fn try_shorten(&mut self, file: u16, size: u64) -> bool
         requires { size ≤ length (state_of self.old.files.items file).seen }
+        ensures cause { result ≡ false → fate_at self.old.failing.items (min (self.old.calls + 1) (2 ^ 64 - 1)) ≢ Passes }
         ensures faults { self.new.faults ≡ self.old.faults }
         ensures last { self.new.last_fault ≡ self.old.last_fault }
         ensures work { (Changes file (cut_to size) self.old.files.items self.new.files.items × IsConsistent (state_of self.old.files.items file)) ⊎ (self.new.files.items ≡ self.old.files.items) }
@@ -246,6 +252,7 @@ impl MemoryDisk {
     }
 
     fn try_flush(&mut self, file: u16) -> bool
+        ensures cause { result ≡ false → fate_at self.old.failing.items (min (self.old.calls + 1) (2 ^ 64 - 1)) ≢ Passes }
         ensures faults { self.new.faults ≡ self.old.faults }
         ensures last { self.new.last_fault ≡ self.old.last_fault }
         ensures work { Changes file flushed self.old.files.items self.new.files.items ⊎ (self.new.files.items ≡ self.old.files.items) }

@@ -127,6 +127,7 @@ impl MemoryFile {
         ensures consistent { IsConsistent self.old }
         ensures done { IsTrue result → self.new ≡ written_at at bytes.now self.old }
         ensures full { result ≡ false → self.new ≡ self.old }
+        ensures no_room { result ≡ false → self.old.room < at + length bytes.now }
         ensures fits { IsTrue result → at + length bytes.now ≤ self.old.room }
     {
         if bytes.len() > self.bytes.len() - at {

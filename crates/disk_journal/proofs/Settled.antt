@@ -1,5 +1,5 @@
 -- What the layers above a journal need of it between its calls.
-use Rattle.std.proofs.Common.{◌≡◌, ℕ, List, [], sym, subst, ◌∙◌}
+use Rattle.std.proofs.Common.{ℕ, List, [], sym, subst, ◌∙◌}
 use Rattle.disk_journal.specs.Disk.{Image, Outcomes, IsImage}
 use Rattle.disk_journal.specs.Journal.{IsOwn, IsJournal, HasBodies, IsOpening, JournalState, IsAtRest, IsSettled, StaysElsewhere}
 

@@ -5,7 +5,7 @@ ghost use Rattle.disk_journal.specs.declared.memory.FailingCall.{FailingCall};
 ghost use Rattle.std.specs.Result.{is_ok};
 ghost use Rattle.disk_journal.specs.declared.memory.Fate.TheVariants.{Passes};
 ghost use Rattle.disk_journal.specs.Failing.{fate_at};
-ghost use Rattle.disk_journal.specs.Disk.{HasCause, RoseAt, IsImage, Only};
+ghost use Rattle.disk_journal.specs.Disk.{HasCause, RoseAt, IsImage, Only, Holds, Steps, Torn, Cut};
 
 use crate::memory_file::MemoryFile;
 use crate::{Disk, DiskFailed, FILE_BYTES};
@@ -316,30 +316,65 @@ impl Disk for MemoryDisk {
 
     ghost seen_may_stay = { λ d f. inl refl };
 
-    fn size(&mut self, file: u16) -> Result<u64, DiskFailed> {
+    fn size(&mut self, file: u16) -> Result<u64, DiskFailed>
+        ensures size { IfOk result (λ size. size ≡ length (state_of self.old.files.items file).seen) }
+        ensures within { IfOk result (λ size. size ≤ FILE_BYTES) }
+        ensures seen { (g : ℕ) → (state_of self.new.files.items g).seen ≡ (state_of self.old.files.items g).seen }
+        ensures crash { (g : ℕ) (c : List ℕ) → MayLeave (state_of self.new.files.items g) c → MayLeave (state_of self.old.files.items g) c }
+        ensures cause { HasCause file self.old.faults self.new.faults self.old.last_fault self.new.last_fault result }
+        ensures fails { OnErr result ((fate_at self.old.failing.items (min (self.old.calls + 1) (2 ^ 64 - 1)) ≢ Passes) ⊎ (FILE_BYTES < length (state_of self.old.files.items file).seen)) }
+    {
         let size = self.len_of(file);
         let passed = self.passes() && size <= FILE_BYTES;
         self.answer(file, passed)?;
         Ok(size)
     }
 
-    fn read(&mut self, file: u16, at: u64, buf: &mut [u8]) -> Result<(), DiskFailed> {
+    fn read(&mut self, file: u16, at: u64, buf: &mut [u8]) -> Result<(), DiskFailed>
+        requires { at + length buf.old ≤ length (state_of self.old.files.items file).seen }
+        ensures bytes { OnOk result (buf.new ≡ take (length buf.old) (drop at (state_of self.old.files.items file).seen)) }
+        ensures seen { (g : ℕ) → (state_of self.new.files.items g).seen ≡ (state_of self.old.files.items g).seen }
+        ensures crash { (g : ℕ) (c : List ℕ) → MayLeave (state_of self.new.files.items g) c → MayLeave (state_of self.old.files.items g) c }
+        ensures cause { HasCause file self.old.faults self.new.faults self.old.last_fault self.new.last_fault result }
+        ensures fails { OnErr result (fate_at self.old.failing.items (min (self.old.calls + 1) (2 ^ 64 - 1)) ≢ Passes) }
+    {
         self.fill(file, at, buf);
         let passed = self.passes();
         self.answer(file, passed)
     }
 
-    fn write_at(&mut self, file: u16, at: u64, bytes: &[u8]) -> Result<(), DiskFailed> {
+    fn write_at(&mut self, file: u16, at: u64, bytes: &[u8]) -> Result<(), DiskFailed>
+        requires { at ≤ length (state_of self.old.files.items file).seen }
+        ensures written { OnOk result (Holds (state_of self.old.files.items file).seen at bytes.now (state_of self.new.files.items file).seen) }
+        ensures within { OnOk result (at + length bytes.now ≤ FILE_BYTES) }
+        ensures elsewhere { (g : ℕ) → g ≢ file → (state_of self.new.files.items g).seen ≡ (state_of self.old.files.items g).seen }
+        ensures crash { Steps file (Torn at (length bytes.now)) (λ g. MayLeave (state_of self.old.files.items g)) (λ g. MayLeave (state_of self.new.files.items g)) }
+        ensures cause { HasCause file self.old.faults self.new.faults self.old.last_fault self.new.last_fault result }
+        ensures fails { OnErr result ((fate_at self.old.failing.items (min (self.old.calls + 1) (2 ^ 64 - 1)) ≢ Passes) ⊎ ((state_of self.old.files.items file ≡ no_file) ⊎ (((state_of self.old.files.items file).room < at + length bytes.now) ⊎ (FILE_BYTES < at + length bytes.now)))) }
+    {
         let passed = self.try_put(file, at, bytes);
         self.answer(file, passed)
     }
 
-    fn cut(&mut self, file: u16, size: u64) -> Result<(), DiskFailed> {
+    fn cut(&mut self, file: u16, size: u64) -> Result<(), DiskFailed>
+        requires { size ≤ length (state_of self.old.files.items file).seen }
+        ensures front { OnOk result ((state_of self.new.files.items file).seen ≡ take size (state_of self.old.files.items file).seen) }
+        ensures elsewhere { (g : ℕ) → g ≢ file → (state_of self.new.files.items g).seen ≡ (state_of self.old.files.items g).seen }
+        ensures crash { Steps file (Cut size) (λ g. MayLeave (state_of self.old.files.items g)) (λ g. MayLeave (state_of self.new.files.items g)) }
+        ensures cause { HasCause file self.old.faults self.new.faults self.old.last_fault self.new.last_fault result }
+        ensures fails { OnErr result (fate_at self.old.failing.items (min (self.old.calls + 1) (2 ^ 64 - 1)) ≢ Passes) }
+    {
         let passed = self.try_shorten(file, size);
         self.answer(file, passed)
     }
 
-    fn sync(&mut self, file: u16) -> Result<(), DiskFailed> {
+    fn sync(&mut self, file: u16) -> Result<(), DiskFailed>
+        ensures durable { OnOk result (Only (state_of self.old.files.items file).seen (MayLeave (state_of self.new.files.items file))) }
+        ensures seen { (g : ℕ) → (state_of self.new.files.items g).seen ≡ (state_of self.old.files.items g).seen }
+        ensures crash { (g : ℕ) (c : List ℕ) → MayLeave (state_of self.new.files.items g) c → MayLeave (state_of self.old.files.items g) c }
+        ensures cause { HasCause file self.old.faults self.new.faults self.old.last_fault self.new.last_fault result }
+        ensures fails { OnErr result (fate_at self.old.failing.items (min (self.old.calls + 1) (2 ^ 64 - 1)) ≢ Passes) }
+    {
         let passed = self.try_flush(file);
         self.answer(file, passed)
     }

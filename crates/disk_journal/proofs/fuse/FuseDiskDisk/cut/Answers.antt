@@ -6,7 +6,7 @@ use Rattle.disk_journal.proofs.fuse.FuseDiskDisk.cut.Goals as goal
 
 pub returns-then-passes-clause-crash : goal.returns-then-passes-clause-crash
 returns-then-passes-clause-crash c t =
-    subst (λ (disk : MemoryDisk). Steps c.args.file (Cut c.args.size) (outcomes_of disk.files.items) (outcomes_of c.cut.new.self.files.items)) c.passes.ensures.disk (c.cut.ensures.crash t)
+    subst (λ (disk : MemoryDisk). Steps c.args.file (Cut c.args.size) (outcomes_of disk.files.items) (outcomes_of c.cut.new.self.files.items)) c.passes.ensures.disk c.cut.ensures.crash
 
 pub returns-clause-crash : goal.returns-clause-crash
 returns-clause-crash c t =

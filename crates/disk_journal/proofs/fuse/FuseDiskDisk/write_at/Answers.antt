@@ -6,7 +6,7 @@ use Rattle.disk_journal.proofs.fuse.FuseDiskDisk.write_at.Goals as goal
 
 pub returns-then-passes-clause-crash : goal.returns-then-passes-clause-crash
 returns-then-passes-clause-crash c t =
-    subst (λ (disk : MemoryDisk). Steps c.args.file (Torn c.args.at (length c.args.bytes.now)) (outcomes_of disk.files.items) (outcomes_of c.write_at.new.self.files.items)) c.passes.ensures.disk (c.write_at.ensures.crash t)
+    subst (λ (disk : MemoryDisk). Steps c.args.file (Torn c.args.at (length c.args.bytes.now)) (outcomes_of disk.files.items) (outcomes_of c.write_at.new.self.files.items)) c.passes.ensures.disk c.write_at.ensures.crash
 
 pub returns-clause-crash : goal.returns-clause-crash
 returns-clause-crash c t =

@@ -1,0 +1,30 @@
+/* Makes the writes and syncs of as many appends of 100 bytes as the first word says, on one open file. */
+#include <fcntl.h>
+#include <stdio.h>
+#include <stdlib.h>
+#include <string.h>
+#include <sys/stat.h>
+#include <unistd.h>
+
+enum { HEADER = 16, BODY = 100, RECORD = 4 + BODY + 1 };
+
+static int put(int file, const void *bytes, size_t count, off_t at) {
+    return pwrite(file, bytes, count, at) == (ssize_t)count;
+}
+
+int main(int argc, char **argv) {
+    long count = argc > 1 ? atol(argv[1]) : 0;
+    unsigned char record[RECORD] = {0, 0, 0, BODY};
+    memset(record + 4, 'x', BODY);
+    mkdir("cells-data", 0777);
+    int file = open("cells-data/service.journal", O_RDWR | O_CREAT | O_TRUNC, 0666);
+    if (file < 0 || !put(file, "cells-journal-01", HEADER + 1, 0) || fsync(file)) return 1;
+    off_t gate = HEADER;
+    for (long i = 0; i < count; i++) {
+        if (!put(file, record, RECORD, gate + 1) || fsync(file)) return 1;
+        if (!put(file, "\1", 1, gate) || fsync(file)) return 1;
+        gate += 1 + 4 + BODY;
+    }
+    printf("%ld\n", count);
+    return 0;
+}

@@ -1,0 +1,12 @@
+pub mod Moments
+pub mod Writing
+pub mod Append
+pub mod Overlaid
+pub mod Files
+pub mod States
+pub mod Torn
+pub mod Calls
+pub mod Crash
+pub mod Reading
+pub mod Opening
+pub mod Settled

@@ -1,19 +1,21 @@
 -- Which values can be written as messages: those whose leases are within their bounds, and whose texts are UTF-8.
-use Rattle.std.specs.Prelude.{ℕ}
+use Rattle.std.specs.Prelude.{ℕ, List, Option, Some, None}
 use Rattle.std.specs.List.{All}
 use Rattle.std.specs.Str.{IsUtf8}
 use Rattle.claim_types.specs.Leases.{IsLease}
 use Rattle.claim_types.specs.Operations.{keys_of}
 use Rattle.claim_types.specs.declared.key.ClaimKey.{ClaimKey}
 use Rattle.claim_types.specs.declared.operations.Operations.{Operations}
+use Rattle.claim_types.specs.declared.lease.LeaseId.{LeaseId}
+use Rattle.claim_types.specs.declared.page.ClaimItem.{ClaimItem}
 use Rattle.claim_types.specs.declared.verdict.Denial.{Denial}
 use Rattle.claim_types.specs.declared.verdict.Denial.TheVariants.{Settled, OtherOperations, NoneOrTooMany, Twice, ForeignId, TooManyOpen, Owned, Leased, NotOwned}
 use Rattle.claim_types.specs.declared.message.Request.{Request}
-use Rattle.claim_types.specs.declared.message.Request.TheVariants.{Begin}
+use Rattle.claim_types.specs.declared.message.Request.TheVariants.{Begin, Commit, Rollback, List as ListRequest, Range, Claims}
 use Rattle.claim_types.specs.declared.message.BegunResult.{BegunResult}
 use Rattle.claim_types.specs.declared.message.BegunResult.TheVariants.{Good, Denied}
 use Rattle.claim_types.specs.declared.message.Reply.{Reply}
-use Rattle.claim_types.specs.declared.message.Reply.TheVariants.{Begun}
+use Rattle.claim_types.specs.declared.message.Reply.TheVariants.{Begun, Committed, RolledBack, Leases, Ranged, Claims as ClaimsReply, NoCell}
 
 -- a key's value is a text
 pub record IsWritableKey (key : ClaimKey) : Type 0 where
@@ -38,8 +40,27 @@ abbrev pub IsWritableResult : BegunResult → Type 0
 IsWritableResult Good = Unit {0}
 IsWritableResult (Denied denial) = IsWritableDenial denial
 
+-- every lease of a list is within its bounds, and every key of a list is a text
+abbrev pub AreWritableLeases : List LeaseId → Type 0
+AreWritableLeases leases = All IsLease leases
+
+abbrev pub AreWritableClaims : List ClaimItem → Type 0
+AreWritableClaims items = All (λ item. IsWritableKey item.key) items
+
 abbrev pub IsWritableRequest : Request → Type 0
 IsWritableRequest (Begin lease ops) = IsLease lease × AreWritable ops
+IsWritableRequest (Commit lease) = IsLease lease
+IsWritableRequest (Rollback lease) = IsLease lease
+IsWritableRequest (ListRequest cell None) = Unit {0}
+IsWritableRequest (ListRequest cell (Some after)) = IsLease after
+IsWritableRequest (Range cell n) = Unit {0}
+IsWritableRequest (Claims cell bucket first last after) = Unit {0}
 
 abbrev pub IsWritableReply : Reply → Type 0
 IsWritableReply (Begun lease result) = IsLease lease × IsWritableResult result
+IsWritableReply (Committed lease result) = IsLease lease
+IsWritableReply (RolledBack lease result) = IsLease lease
+IsWritableReply (Leases cell page) = AreWritableLeases page.leases
+IsWritableReply (Ranged cell n result) = Unit {0}
+IsWritableReply (ClaimsReply cell bucket first last after page) = AreWritableClaims page.items
+IsWritableReply (NoCell cell) = Unit {0}

@@ -39,7 +39,7 @@ pub use limits::{
     BODY, CLAIMS_A_PAGE, GREATEST_ATTEMPT, GREATEST_CELL, GREATEST_IDENTIFIER, KEY_BYTES,
     LEASES_A_PAGE, OPEN_LEASES, OPERATIONS,
 };
-pub use message::{BegunResult, Reply, Request};
+pub use message::{BegunResult, CommittedResult, RangedResult, Reply, Request, RolledBackResult};
 pub use operations::{Create, Creates, Keys, Operations, Origin, Subject};
 pub use page::{ClaimItem, ClaimItems, ClaimPage, LeaseIds, LeasePage};
 pub use question::{Class, Question};

@@ -1,10 +1,40 @@
-use crate::{Denial, LeaseId, Operations};
+use crate::{Bucket, ClaimPage, Denial, LeaseId, LeasePage, Operations};
 
 /// A request to the service.
 #[derive(Debug, Drop)]
 pub enum Request {
     /// Asks for a lease on the keys of these operations.
-    Begin { lease: LeaseId, ops: Operations },
+    Begin {
+        lease: LeaseId,
+        ops: Operations,
+    },
+    /// Asks that an open lease be applied.
+    Commit {
+        lease: LeaseId,
+    },
+    /// Asks that a lease be given up, whether it was begun or not.
+    Rollback {
+        lease: LeaseId,
+    },
+    /// Asks for the open leases of a cell behind this one.
+    List {
+        cell: u16,
+        after: Option<LeaseId>,
+    },
+    /// Asks for the range of a cell with this number, from 1.
+    Range {
+        cell: u16,
+        number: u64,
+    },
+    /// Asks for the claims that a cell holds in a bucket, with a row from `first` to `last` and
+    /// above `after`.
+    Claims {
+        cell: u16,
+        bucket: Bucket,
+        first: u64,
+        last: u64,
+        after: u64,
+    },
 }
 
 /// What a begin is answered with.
@@ -14,9 +44,75 @@ pub enum BegunResult {
     Denied(Denial),
 }
 
-/// An answer of the service.
+/// What a commit is answered with.
+#[derive(Clone, Copy, Debug)]
+pub enum CommittedResult {
+    Good,
+    /// The lease was never begun.
+    Unknown,
+    WasRolledBack,
+}
+
+/// What a rollback is answered with.
+#[derive(Clone, Copy, Debug)]
+pub enum RolledBackResult {
+    Good,
+    WasCommitted,
+}
+
+/// What a range request is answered with.
+#[derive(Clone, Copy, Debug)]
+pub enum RangedResult {
+    /// The range has these ends.
+    Good { low: u64, high: u64 },
+    /// The configuration lacks the cell.
+    UnknownCell,
+    /// The number is above the next one.
+    TooFar { next: u64 },
+    /// The range would pass the greatest identifier; the last one given ends here, or is none at 0.
+    Exhausted { last: u64 },
+}
+
+/// An answer of the service. It names what was asked.
 #[derive(Debug, Drop)]
 pub enum Reply {
     /// To a begin.
-    Begun { lease: LeaseId, result: BegunResult },
+    Begun {
+        lease: LeaseId,
+        result: BegunResult,
+    },
+    /// To a commit.
+    Committed {
+        lease: LeaseId,
+        result: CommittedResult,
+    },
+    /// To a rollback.
+    RolledBack {
+        lease: LeaseId,
+        result: RolledBackResult,
+    },
+    /// To a list.
+    Leases {
+        cell: u16,
+        page: LeasePage,
+    },
+    /// To a range request.
+    Ranged {
+        cell: u16,
+        number: u64,
+        result: RangedResult,
+    },
+    /// To a request for claims.
+    Claims {
+        cell: u16,
+        bucket: Bucket,
+        first: u64,
+        last: u64,
+        after: u64,
+        page: ClaimPage,
+    },
+    /// To a request of a cell that the configuration lacks.
+    NoCell {
+        cell: u16,
+    },
 }

@@ -7,11 +7,22 @@ use Rattle.std.specs.Cmp.{IsTotalOrder, tied_itself}
 use Rattle.std.specs.List as list
 use Rattle.std.specs.FinMap.{FinMap, get, entries, entries_sorted, get-entries}
 use Rattle.std.specs.FinMap.Entries.{find, is_sorted, below_all}
+use Rattle.std.specs.List.{All}
+use Rattle.std.proofs.lemmas.List.Elements.{All-nil, All-cons, All-head, All-tail}
 use Rattle.cells_base.proofs.Maps.{and_split}
 
 picked : {V : Type 0} (b : Bool) (x v : V) (rest : Option V) → cond b (Some x) rest ≡ Some v → (x ≡ v) ⊎ (rest ≡ Some v)
 picked true x v rest h = inl cc
 picked false x v rest h = inr h
+
+true_or_false : (b : Bool) → (b ≡ true) ⊎ (b ≡ false)
+true_or_false true = inl refl
+true_or_false false = inr refl
+
+tied_equal : (o : Ordering) → is_eq o ≡ true → o ≡ Equal
+tied_equal Less h = cc
+tied_equal Equal h = refl
+tied_equal Greater h = cc
 
 is_true : (b : Bool) → T b → b ≡ true
 is_true true t = refl
@@ -44,3 +55,39 @@ module _ {K X : Type 0} {R : K → K → Ordering} (total : IsTotalOrder R) wher
 
   pub get-found : (m : FinMap R X) (test : K × X → Bool) (e : K × X) → list.find test (entries m) ≡ Some e → get m e.0 ≡ Some e.1
   get-found m test e is = get-entries m e.0 ∙ found_at test (entries m) e (is_true (is_sorted R (entries m)) (entries_sorted m)) is
+
+-- what is true of all that a map gives is true of each of its entries
+module _ {K X : Type 0} {R : K → K → Ordering} (total : IsTotalOrder R) (P : K × X → Type 0) where
+  not_equal : (b : Bool) → b ≡ false → (x v : X) (rest : Option X) → rest ≡ Some v → cond b (Some x) rest ≡ Some v
+  not_equal true none x v rest h = cc
+  not_equal false none x v rest h = h
+
+  -- a key that is found behind one that is below all is another
+  later_key : (k q : K) (v : X) (es : List (K × X)) → below_all R k es ≡ true → find R q es ≡ Some v → eq_by_cmp R q k ≡ false
+  later_key k q v [] all is = cc
+  later_key k q v (x ∷ es) all is =
+      let both = and_split (is_lt (R k x.0)) (below_all R k es) all in
+      elim (true_or_false (eq_by_cmp R q x.0)) [
+        | inl tied ↦ ap is_eq (total.congr q x.0 k (tied_equal (R q x.0) tied)) ∙ below (R k x.0) (R x.0 k) both.0 (total.antisymm x.0 k)
+        | inr apart ↦ later_key k q v es both.1 (sym (ap (λ b. cond b (Some x.1) (find R q es)) apart) ∙ is)
+      ]
+
+  each_entry : (es : List (K × X)) → is_sorted R es ≡ true → ((k : K) (v : X) → find R k es ≡ Some v → P (k, v)) → All P es
+  each_entry [] sorted h = All-nil P
+  each_entry (x ∷ es) sorted h =
+      let both = and_split (below_all R x.0 es) (is_sorted R es) sorted in
+      All-cons P x es
+      (h x.0 x.1 (ap (λ b. cond b (Some x.1) (find R x.0 es)) (ap is_eq (tied_itself total x.0))))
+      (each_entry es both.1 (λ k v is. h k v (not_equal (eq_by_cmp R k x.0) (later_key x.0 k v es both.0 is) x.1 v (find R k es) is)))
+
+  pub All-entries : (m : FinMap R X) → ((k : K) (v : X) → get m k ≡ Some v → P (k, v)) → All P (entries m)
+  All-entries m h = each_entry (entries m) (is_true (is_sorted R (entries m)) (entries_sorted m)) (λ k v is. h k v (get-entries m k ∙ is))
+
+-- what a look-up in a list finds stands in it
+pub found_in : {K X : Type 0} (R : K → K → Ordering) (P : X → Type 0) (q : K) (v : X) (es : List (K × X)) → All (λ (e : K × X). P e.1) es → find R q es ≡ Some v → P v
+found_in R P q v [] all is = absurd cc
+found_in {K} {X} R P q v (e ∷ es) all is =
+    elim (picked (eq_by_cmp R q e.0) e.1 v (find R q es) is) [
+      | inl same ↦ subst P same (All-head (λ (x : K × X). P x.1) e es all)
+      | inr later ↦ found_in R P q v es (All-tail (λ (x : K × X). P x.1) e es all) later
+    ]

@@ -11,7 +11,7 @@ use Rattle.claim_types.specs.declared.key.Bucket.TheVariants.{OrganizationPath, 
 use Rattle.claim_types.specs.declared.key.ClaimKey.{ClaimKey}
 use Rattle.claim_types.specs.declared.key.KeyFault.{KeyFault}
 use Rattle.claim_types.specs.declared.key.KeyFault.TheVariants.{Empty, TooLong, BadByte, BadSegment, Reserved}
-use Rattle.claim_types.specs.Keys.{key_of, lowered_key, after_bytes, after_parts, has_byte, is_plain, is_segment_byte, is_reserved, first_bad, parts_of}
+use Rattle.claim_types.specs.Keys.{key_of, lowered_key, after_bytes, after_parts, is_in_alphabet, is_plain, is_segment_byte, is_reserved, first_bad, parts_of}
 use Rattle.claim_types.specs.declared.limits.TheConstants.{KEY_BYTES}
 
 plain_below : (b : ℕ) → is_plain b ≡ true → b < 128
@@ -32,7 +32,7 @@ digit_below b h = grind (arith, nat_tests)
 domain_below : (b : ℕ) → (is_plain b || b == 45 || b == 46) ≡ true → b < 128
 domain_below b h = grind (arith, nat_tests)
 
-byte_below : (bucket : Bucket) (b : ℕ) → has_byte bucket b ≡ true → b < 128
+byte_below : (bucket : Bucket) (b : ℕ) → is_in_alphabet bucket b ≡ true → b < 128
 byte_below OrganizationPath b h = segment_below b h
 byte_below Route b h = route_below b h
 byte_below Address b h = address_below b _ h
@@ -51,10 +51,10 @@ rest_none : (b : Bool) (n m : ℕ) → nat_lt (cond (not b) (1 + n) 0) (suc m) �
 rest_none true n m h = absurd (grind (arith, nat_tests))
 rest_none false n m h = grind (arith, nat_tests)
 
-all_ascii : (bucket : Bucket) (value : List ℕ) → nat_lt (position_or_len (λ b. not (has_byte bucket b)) value) (length value) ≡ false → IsAscii value
+all_ascii : (bucket : Bucket) (value : List ℕ) → nat_lt (position_or_len (λ b. not (is_in_alphabet bucket b)) value) (length value) ≡ false → IsAscii value
 all_ascii bucket [] none i = lit< tt
-all_ascii bucket (b ∷ bs) none zero = byte_below bucket b (not_false (has_byte bucket b) (first_passes (not (has_byte bucket b)) (position_or_len (λ b. not (has_byte bucket b)) bs) (length bs) none))
-all_ascii bucket (b ∷ bs) none (suc i) = all_ascii bucket bs (rest_none (not (has_byte bucket b)) (position_or_len (λ b. not (has_byte bucket b)) bs) (length bs) none) i
+all_ascii bucket (b ∷ bs) none zero = byte_below bucket b (not_false (is_in_alphabet bucket b) (first_passes (not (is_in_alphabet bucket b)) (position_or_len (λ b. not (is_in_alphabet bucket b)) bs) (length bs) none))
+all_ascii bucket (b ∷ bs) none (suc i) = all_ascii bucket bs (rest_none (not (is_in_alphabet bucket b)) (position_or_len (λ b. not (is_in_alphabet bucket b)) bs) (length bs) none) i
 
 cond_none : (b : Bool) (x : ℕ) → cond b (Some x) None ≡ None → b ≡ false
 cond_none true x h = cc
@@ -75,7 +75,7 @@ by_bytes bucket value None key h = (refl, by_parts bucket value (first_bad bucke
 
 lowered_text : (bucket : Bucket) (value : List ℕ) (key : ClaimKey) → lowered_key bucket value ≡ Ok key → IsUtf8 key.value
 lowered_text bucket value key h =
-    let both = by_bytes bucket value (position (λ b. not (has_byte bucket b)) value) key h in
+    let both = by_bytes bucket value (position (λ b. not (is_in_alphabet bucket b)) value) key h in
     subst IsUtf8 (sym both.1) (IsUtf8-from_ascii value (all_ascii bucket value (cond_none _ _ both.0)))
 
 last_of : (a b : Bool) (rest : Result ClaimKey KeyFault) (key : ClaimKey) → cond a (Err Empty) (cond b (Err TooLong) rest) ≡ Ok key → rest ≡ Ok key

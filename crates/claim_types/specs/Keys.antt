@@ -1,8 +1,9 @@
 -- The key that a bucket reads from a text, or the first refusal. It is a rule on the whole text.
 use Rattle.std.specs.Prelude.{◌≡◌, ℕ, ◌+◌, Bool, true, false, not, ◌&&◌, ◌||◌, ◌==◌, nat_lt, nat_le, nat_eq, if◌then◌else◌, List, [], ◌∷◌, length, map, codes, position, take, Option, Some, None, Result, Ok, Err}
 use Rattle.std.specs.List.{list_all, list_any, starts_with, ends_with, slice_split, before_first}
-use Rattle.std.specs.Str.{bytes_eq}
-use Rattle.std.specs.Char.{to_ascii_lowercase, is_ascii_digit, is_ascii_lowercase}
+use Rattle.std.specs.Option.{option_or}
+use Rattle.std.specs.Str.{byte, bytes_eq}
+use Rattle.std.specs.Char.{to_ascii_lowercase, is_ascii_digit, is_ascii_lowercase, is_ascii_graphic}
 use Rattle.std.specs.Int.{is_in_range}
 use Rattle.claim_types.specs.declared.key.Bucket.{Bucket}
 use Rattle.claim_types.specs.declared.key.Bucket.TheVariants.{OrganizationPath, Route, Address, SshKey, PagesDomain}
@@ -17,27 +18,27 @@ is_plain b = is_ascii_digit b || is_ascii_lowercase b
 
 -- what a segment of a path may have: these, '_', '.' and '-'
 abbrev pub is_segment_byte : ℕ → Bool
-is_segment_byte b = is_plain b || b == 95 || b == 46 || b == 45
+is_segment_byte b = is_plain b || b == byte "_" || b == byte "." || b == byte "-"
 
 -- '/' stands between the segments of a route, and '.' between the labels of a domain
 abbrev pub is_slash : ℕ → Bool
-is_slash b = b == 47
+is_slash b = b == byte "/"
 
 abbrev pub is_dot : ℕ → Bool
-is_dot b = b == 46
+is_dot b = b == byte "."
 
 -- the alphabet of a bucket; an address has the printed ASCII but '"' and '\'
-abbrev pub has_byte : Bucket → ℕ → Bool
-has_byte OrganizationPath b = is_segment_byte b
-has_byte Route b = is_segment_byte b || is_slash b
-has_byte Address b = is_in_range 33 126 b && not (b == 34 || b == 92)
-has_byte SshKey b = is_ascii_digit b || is_in_range 97 102 b
-has_byte PagesDomain b = is_plain b || b == 45 || is_dot b
+abbrev pub is_in_alphabet : Bucket → ℕ → Bool
+is_in_alphabet OrganizationPath b = is_segment_byte b
+is_in_alphabet Route b = is_segment_byte b || is_slash b
+is_in_alphabet Address b = is_ascii_graphic b && not (b == byte "\"" || b == byte "\\")
+is_in_alphabet SshKey b = is_ascii_digit b || is_in_range (byte "a") (byte "f") b
+is_in_alphabet PagesDomain b = is_plain b || b == byte "-" || is_dot b
 
--- a small letter, a digit or '_' stands first
+-- a small letter, a digit or '_' stands first; an empty segment has nothing that begins it
 abbrev pub begins_well : List ℕ → Bool
 begins_well [] = false
-begins_well (b ∷ bs) = is_plain b || b == 95
+begins_well (b ∷ bs) = is_plain b || b == byte "_"
 
 -- the endings that no segment has
 abbrev pub ends_badly : List ℕ → Bool
@@ -49,7 +50,7 @@ is_segment s = nat_le (length s) 63 && list_all is_segment_byte s && begins_well
 
 -- a label has small letters, digits and '-'
 abbrev pub is_label_byte : ℕ → Bool
-is_label_byte b = is_plain b || b == 45
+is_label_byte b = is_plain b || b == byte "-"
 
 -- a label of a domain: 1 to 63 bytes, neither beginning nor ending with '-'
 abbrev pub is_label : List ℕ → Bool
@@ -87,17 +88,13 @@ most_parts Address = 1
 most_parts SshKey = 1
 most_parts PagesDomain = 8
 
--- where the number of parts is wrong: the first one too many, or the place of the first one that is wanting
-abbrev pub wrong_number : ℕ → ℕ → ℕ → Option ℕ
-wrong_number least most n = if nat_lt most n then Some most else if nat_lt n least then Some n else None
+-- where the number of parts is wrong: the place of the first one too many, or of the one that is missing
+abbrev pub miscounted_at : ℕ → ℕ → ℕ → Option ℕ
+miscounted_at least most n = if nat_lt most n then Some most else if nat_lt n least then Some n else None
 
-abbrev pub or_else : Option ℕ → Option ℕ → Option ℕ
-or_else (Some i) other = Some i
-or_else None other = other
-
--- the first part, of as many as there may be, that is not what it has to be; else the place where the number is wrong
+-- the first part that breaks its rule, among the most that a value may have; else the first one too many; else the one that is missing
 abbrev pub first_bad : Bucket → List (List ℕ) → Option ℕ
-first_bad bucket parts = or_else (position (λ part. not (is_part bucket part)) (take (most_parts bucket) parts)) (wrong_number (least_parts bucket) (most_parts bucket) (length parts))
+first_bad bucket parts = option_or (position (λ part. not (is_part bucket part)) (take (most_parts bucket) parts)) (miscounted_at (least_parts bucket) (most_parts bucket) (length parts))
 
 -- the words that no path begins with
 abbrev pub reserved_words : List (List ℕ)
@@ -126,7 +123,7 @@ after_bytes bucket value (Some at) = Err (BadByte at)
 after_bytes bucket value None = after_parts bucket value (first_bad bucket (parts_of bucket value))
 
 abbrev pub lowered_key : Bucket → List ℕ → Result ClaimKey KeyFault
-lowered_key bucket value = after_bytes bucket value (position (λ b. not (has_byte bucket b)) value)
+lowered_key bucket value = after_bytes bucket value (position (λ b. not (is_in_alphabet bucket b)) value)
 
 -- the key of a text
 abbrev pub key_of : Bucket → List ℕ → Result ClaimKey KeyFault
@@ -137,10 +134,5 @@ key_of bucket text =
 
 -- what was returned is what the rule says, unless memory ran out
 abbrev pub GivesKey : Result ClaimKey KeyFault → Result ClaimKey KeyFault → Type 0
-GivesKey (Ok key) rule = rule ≡ Ok key
-GivesKey (Err Empty) rule = rule ≡ Err Empty
-GivesKey (Err TooLong) rule = rule ≡ Err TooLong
-GivesKey (Err (BadByte at)) rule = rule ≡ Err (BadByte at)
-GivesKey (Err (BadSegment index)) rule = rule ≡ Err (BadSegment index)
-GivesKey (Err Reserved) rule = rule ≡ Err Reserved
 GivesKey (Err Memory) rule = Unit {0}
+GivesKey result rule = rule ≡ result

@@ -22,7 +22,7 @@ lease_bytes lease = to_be_bytes w16 lease.cell ++ to_be_bytes w32 lease.epoch ++
 abbrev pub NamesLease : List ℕ → Type 0
 NamesLease bytes = (lease : LeaseId) × IsLease lease × (lease_bytes lease ≡ bytes)
 
--- the same as a test
+-- From here on the same, as a computation: whether a lease is within its bounds, where its epoch has 32 bits.
 abbrev pub is_lease : LeaseId → Bool
 is_lease lease = nat_le 1 lease.cell && nat_le lease.cell GREATEST_CELL && nat_le 1 lease.epoch && nat_le 1 lease.attempt && nat_le lease.attempt GREATEST_ATTEMPT
 

@@ -33,13 +33,13 @@ fn is_segment_byte(b: u8) -> bool
 }
 
 fn is_address_byte(b: u8) -> bool
-    ensures { result ≡ spec.has_byte Bucket.Address b }
+    ensures { result ≡ spec.is_in_alphabet Bucket.Address b }
 {
     b.is_ascii_graphic() && !(b == b'"' || b == b'\\')
 }
 
-fn has_byte(bucket: Bucket, b: u8) -> bool
-    ensures { result ≡ spec.has_byte bucket b }
+fn is_in_alphabet(bucket: Bucket, b: u8) -> bool
+    ensures { result ≡ spec.is_in_alphabet bucket b }
 {
     match bucket {
         Bucket::OrganizationPath => is_segment_byte(b),
@@ -50,11 +50,11 @@ fn has_byte(bucket: Bucket, b: u8) -> bool
     }
 }
 
-/// The place of the first byte that the bucket has not.
+/// The place of the first byte outside the bucket's alphabet.
 pub fn bad_byte(bucket: Bucket, value: &[u8]) -> Option<usize>
-    ensures { result ≡ position (λ b. not (spec.has_byte bucket b)) value.now }
+    ensures { result ≡ position (λ b. not (spec.is_in_alphabet bucket b)) value.now }
 {
-    value.iter().position(|b| !has_byte(bucket, *b))
+    value.iter().position(|b| !is_in_alphabet(bucket, *b))
 }
 
 fn begins_well(segment: &[u8]) -> bool

@@ -34,9 +34,10 @@ pub enum KeyFault {
     Empty,
     /// There are more than 255 bytes.
     TooLong,
-    /// The byte at this place, from 0, is the first that the bucket has not.
+    /// The byte at this place, from 0, is the first outside the bucket's alphabet.
     BadByte { at: u64 },
-    /// The part with this index, from 0, is the first that breaks its rule or stands in the way.
+    /// The part with this index, from 0, is the first that breaks its rule; else the first one too
+    /// many, or the one that is missing.
     BadSegment { index: u64 },
     /// The first segment is a reserved word.
     Reserved,

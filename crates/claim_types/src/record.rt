@@ -97,10 +97,10 @@ pub struct Record {
 /// A change of a cell's records.
 #[derive(Debug, Drop)]
 pub enum Change {
-    /// A new record below `parent`.
+    /// Adds a record below `parent`.
     Create { kind: Kind, parent: u64, name: Text },
-    /// Another name for a record.
+    /// Renames a record.
     Rename { id: u64, name: Text },
-    /// A record less.
+    /// Removes a record.
     Remove { id: u64 },
 }

@@ -1,7 +1,8 @@
 use crate::{ClaimKey, How, LeaseId};
 
-/// Why a begin is refused, in the order in which the reasons are sought. Places count the creates
-/// first and then the destroys, from 0.
+/// Why a begin is refused. The first six reasons are sought in this order. The last three are of the
+/// first operation, in order, that is refused: a create is `Owned`, else `Leased`; a destroy is
+/// `NotOwned`, else `Leased`. Places count the creates first and then the destroys, from 0.
 #[derive(Clone, Copy, Debug, PartialEq, Eq)]
 pub enum Refusal {
     /// The lease has ended.

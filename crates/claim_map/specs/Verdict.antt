@@ -1,9 +1,9 @@
 -- What a begin comes to.
-use Rattle.std.specs.Prelude.{◌≡◌, ℕ, ◌+◌, ◌≤◌, Bool, true, false, not, ◌||◌, ◌==◌, nat_lt, nat_le, nat_eq, if◌then◌else◌, List, [], ◌∷◌, ◌++◌, length, map, Option, Some, None, option_map, count_by}
+use Rattle.std.specs.Prelude.{◌≡◌, ℕ, ◌+◌, Bool, true, not, ◌||◌, ◌==◌, nat_lt, nat_le, nat_eq, if◌then◌else◌, List, [], ◌∷◌, ◌++◌, length, Option, Some, None, option_map, count_by}
 use Rattle.std.specs.List.{list_any, find, Contains}
 use Rattle.std.specs.FinMap as map
-use Rattle.claim_types.specs.Order.{key_eq, operations_eq, lease_cmp, key_cmp}
-use Rattle.claim_types.specs.Operations.{keys_of, operation_count}
+use Rattle.claim_types.specs.Order.{key_eq, operations_eq, lease_cmp}
+use Rattle.claim_types.specs.Operations.{keys_of, operation_count, AreWellFormed}
 use Rattle.claim_types.specs.declared.key.ClaimKey.{ClaimKey}
 use Rattle.claim_types.specs.declared.lease.LeaseId.{LeaseId}
 use Rattle.claim_types.specs.declared.lease.Holding.{Holding}
@@ -118,3 +118,10 @@ verdict_of s given lease ops =
     settled_before (map.get s.settled lease)
     (begun_before (map.get s.begun lease) ops
     (fresh_unless (refusal_of s given lease ops)))
+
+-- a lease may be opened: it is new, and its operations are well formed with claims that are free
+pub record MayBegin (s : LeaseState) (given : List Range) (lease : LeaseId) (ops : Operations) : Type 0 where
+  pub unsettled : map.get s.settled lease ≡ None
+  pub closed : map.get s.begun lease ≡ None
+  pub well_formed : AreWellFormed ops
+  pub free : IsFree s given lease ops

@@ -21,4 +21,4 @@
 
 mod laws;
 
-pub use laws::due_is_writable;
+pub use laws::{due_is_writable, fresh_is_free};

@@ -1,10 +1,10 @@
 -- The claims that a page lists, gathered from held keys in order.
-use Rattle.std.proofs.Common.{◌≡◌, ℕ, zero, suc, ◌+◌, ◌<◌, ◌≤◌, Bool, true, false, cond, T, IsTrue, List, [], ◌∷◌, ◌++◌, map, filter, length, take, drop, get_or, Option, Some, None, refl, sym, ◌∙◌, ap, subst, arith}
+use Rattle.std.proofs.Common.{◌≡◌, ℕ, zero, suc, ◌+◌, ◌<◌, ◌≤◌, Bool, true, false, cond, T, List, [], ◌∷◌, ◌++◌, map, filter, length, take, get_or, Some, None, refl, sym, ◌∙◌, ap, subst, arith}
 use Rattle.std.specs.declared.cmp.Ordering.{Ordering}
 use Rattle.std.specs.declared.cmp.Ordering.TheVariants.{Less, Equal, Greater}
 use Rattle.std.specs.Ordering.{is_eq, nat_cmp, ordering_then}
 use Rattle.std.specs.Cmp.{IsTotalOrder}
-use Rattle.std.specs.FinMap.{FinMap, IsAntisymmetric, nat_cmp-IsAntisymmetric, entries, values, from_entries, from_entries_push, entries-insert, entries-from_sorted}
+use Rattle.std.specs.FinMap.{IsAntisymmetric, nat_cmp-IsAntisymmetric, entries, values, from_entries, from_entries_push, entries-insert, entries-from_sorted}
 use Rattle.std.specs.FinMap as fin
 use Rattle.std.specs.FinMap.Entries.{find, put}
 use Rattle.std.proofs.lemmas.Cmp.{nat_cmp_total, then_total, on_total}
@@ -18,7 +18,7 @@ use Rattle.claim_types.specs.declared.page.ClaimItem.{ClaimItem}
 use Rattle.claim_types.proofs.Ordered.{keys_total, keys_exact, both_equal}
 use Rattle.claim_map.specs.Pages.{place_cmp, placed}
 use Rattle.lease_core.specs.declared.items.HeldItem.{HeldItem}
-use Rattle.lease_core.specs.Kept.{held_entry, held_entries, AreHeld, claim_entry, claim_entries}
+use Rattle.lease_core.specs.Kept.{held_entry, held_entries, AreHeld, claim_entries}
 use Rattle.lease_core.proofs.Sorted.{both, above, below_each, from_none}
 use Rattle.lease_core.proofs.First.{put_first}
 

@@ -1,5 +1,5 @@
 -- Look-ups over all open leases, item by item.
-use Rattle.std.proofs.Common.{◌≡◌, ℕ, ◌+◌, Bool, true, false, ◌||◌, cond, List, [], ◌∷◌, ◌++◌, map, nat_eq, count_by, Option, Some, None, option_map, refl, sym, ◌∙◌, ap, length, arith}
+use Rattle.std.proofs.Common.{◌≡◌, ℕ, ◌+◌, Bool, true, false, ◌||◌, cond, List, [], ◌∷◌, map, nat_eq, count_by, Some, option_map, refl, sym, ◌∙◌, ap, length, arith}
 use Rattle.std.specs.List.{list_any, find, fold}
 use Rattle.std.specs.FinMap.{entries}
 use Rattle.std.specs.FinMap as fin

@@ -1,9 +1,10 @@
 -- What a `Leases` stands for, and what holds of its lists.
-use Rattle.std.specs.Prelude.{◌≡◌, ℕ, ◌+◌, ◌≤◌, vec_len, vec_capacity}
+use Rattle.std.specs.Prelude.{◌≡◌, ◌+◌, ◌≤◌, vec_len, vec_capacity}
 use Rattle.claim_map.specs.State.{LeaseState}
 use Rattle.lease_core.specs.declared.leases.Leases.TheInside.{Inside}
 use Rattle.lease_core.specs.Kept.{AreHeld, AreBegun, AreDone, holders, open_leases, settled_leases, creates_of}
 
+-- the three maps that the lists are
 abbrev pub state_of : Inside → LeaseState
 state_of s = record { holder = holders s.held.items; begun = open_leases s.begun.items; settled = settled_leases s.done.items }
 

@@ -18,12 +18,14 @@ pub enum BeginFault {
 pub enum CommitFault {
     /// The lease is neither open nor settled.
     Unknown,
+    /// The lease is settled as rolled back.
     WasRolledBack,
 }
 
 /// Why a lease was not rolled back. The state is as it was.
 #[derive(Clone, Copy, Debug, PartialEq, Eq)]
 pub enum RollbackFault {
+    /// The lease is settled as committed.
     WasCommitted,
     /// Want of memory, at a lease that is neither open nor settled.
     Memory,

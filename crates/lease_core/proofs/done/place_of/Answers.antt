@@ -9,4 +9,4 @@ use Rattle.lease_core.proofs.done.place_of.Goals as goal
 pub returns-clause-found : goal.returns-clause-found
 returns-clause-found c =
     let facts = c.binary_search_by.ensures in
-    searched leases_total leases_exact done_entry c.args.lease c.args.done.now _ c.requires facts.bound (facts.position (λ item. lease_cmp item.lease c.args.lease) (always_returns_same _ _ _ (λ a r g called. search rules)))
+    searched leases_total leases_exact done_entry c.args.lease c.args.done.now c.binary_search_by.result c.requires facts.bound (facts.position (λ item. lease_cmp item.lease c.args.lease) (always_returns_same _ _ _ (λ a r g called. search rules)))

@@ -11,4 +11,4 @@ pub returns-clause-found : goal.returns-clause-found
 returns-clause-found c =
     let facts = c.binary_search_by.ensures in
     let key : ClaimKey = record { bucket = c.args.bucket; value = c.args.value.now } in
-    searched keys_total keys_exact held_entry key c.args.held.now _ c.requires facts.bound (facts.position (λ item. key_cmp item.key key) (always_returns_same _ _ _ (λ a r g called. search rules)))
+    searched keys_total keys_exact held_entry key c.args.held.now c.binary_search_by.result c.requires facts.bound (facts.position (λ item. key_cmp item.key key) (always_returns_same _ _ _ (λ a r g called. search rules)))

@@ -1,4 +1,4 @@
-use Rattle.std.proofs.Common.{◌≡◌, ◌∙◌, ap, arith, take, ◌-◌, length, ℕ}
+use Rattle.std.proofs.Common.{arith}
 use Rattle.claim_types.specs.Operations.{keys_of}
 use Rattle.lease_core.proofs.Repeated.{repeated_here, not_here, keys_count}
 use Rattle.lease_core.proofs.judge.repeated.Goals as goal

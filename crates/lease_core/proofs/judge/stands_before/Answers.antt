@@ -1,4 +1,4 @@
-use Rattle.std.proofs.Common.{◌≡◌, ◌∙◌, ap, arith, take, ◌-◌, length, ℕ, List}
+use Rattle.std.proofs.Common.{◌≡◌, ◌∙◌, ap, arith, take, ◌-◌, length, List}
 use Rattle.std.specs.List.{list_any}
 use Rattle.claim_types.specs.Order.{key_eq}
 use Rattle.claim_types.specs.declared.key.ClaimKey.{ClaimKey}

@@ -1,7 +1,5 @@
-use Rattle.std.proofs.Common.{◌≡◌, ◌≤◌, ◌∙◌, ap, sym, subst, arith, length, take, refl, List}
-use Rattle.claim_types.specs.declared.page.ClaimItem.{ClaimItem}
+use Rattle.std.proofs.Common.{◌∙◌, ap, arith, take, refl}
 use Rattle.claim_map.specs.Pages.{is_listed}
-use Rattle.lease_core.specs.Kept.{claim_entries, AreClaims}
 use Rattle.lease_core.proofs.Claims.{left_out, gathered_more, all_gathered, none_gathered}
 use Rattle.lease_core.proofs.pages.first_claims.Goals as goal
 use Rattle.lease_core.proofs.pages.first_claims.Goals.{then-lists+in_ok-put_claim, else-lists}

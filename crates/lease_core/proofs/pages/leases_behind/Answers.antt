@@ -1,4 +1,4 @@
-use Rattle.std.proofs.Common.{◌≡◌, ◌∙◌, ◌&&◌, nat_eq, ap, sym, subst, arith, length, ◌+◌, ◌<◌, ◌++◌, ◌-◌, ◌∷◌, [], List, map, filter, take, drop}
+use Rattle.std.proofs.Common.{◌≡◌, ◌∙◌, ◌&&◌, nat_eq, ap, sym, subst, arith, length, ◌+◌, ◌<◌, ◌++◌, ◌-◌, List, map, filter, take, drop}
 use Rattle.claim_types.specs.declared.lease.LeaseId.{LeaseId}
 use Rattle.claim_map.specs.Pages.{is_behind}
 use Rattle.lease_core.specs.declared.items.BegunItem.{BegunItem}

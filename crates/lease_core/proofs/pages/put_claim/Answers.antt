@@ -1,9 +1,8 @@
-use Rattle.std.proofs.Common.{◌≡◌, ◌∙◌, ap, sym, subst, arith, length, take, set}
+use Rattle.std.proofs.Common.{◌∙◌, ap, sym, take, set}
 use Rattle.std.specs.List.{insert}
-use Rattle.std.specs.FinMap.Entries.{put}
 use Rattle.claim_types.specs.declared.page.ClaimItem.{ClaimItem}
-use Rattle.claim_map.specs.Pages.{place_cmp, placed}
-use Rattle.lease_core.specs.Kept.{held_entry, claim_entry, claim_entries, AreClaims}
+use Rattle.claim_map.specs.Pages.{placed}
+use Rattle.lease_core.specs.Kept.{held_entry, claim_entry, claim_entries}
 use Rattle.lease_core.proofs.First.{first_set, first_inserted, first_past, first_sorted}
 use Rattle.lease_core.proofs.Claims.{places_total, places_exact}
 use Rattle.lease_core.proofs.pages.put_claim.Goals as goal

@@ -1,4 +1,4 @@
-use Rattle.std.proofs.Common.{◌≡◌, ◌∙◌, ap, sym, length, map, filter, take, List}
+use Rattle.std.proofs.Common.{◌≡◌, ◌∙◌, ap, sym, map, filter, take, List}
 use Rattle.std.specs.FinMap.{values, from_entries}
 use Rattle.claim_types.specs.declared.key.ClaimKey.{ClaimKey}
 use Rattle.claim_types.specs.declared.lease.Holding.{Holding}

@@ -1,4 +1,4 @@
-use Rattle.std.proofs.Common.{◌≡◌, ◌∙◌, ◌&&◌, ap, sym, nat_eq, nat_lt, length, map, filter, take, List}
+use Rattle.std.proofs.Common.{◌≡◌, ◌∙◌, ◌&&◌, ap, nat_eq, map, filter, take, List}
 use Rattle.claim_types.specs.declared.lease.LeaseId.{LeaseId}
 use Rattle.claim_map.specs.State.{LeaseState}
 use Rattle.claim_map.specs.Pages.{is_behind, leases_behind}

@@ -2,3 +2,4 @@ pub mod Refusals
 pub mod Written
 pub mod Fresh
 pub mod Free
+pub mod Places

@@ -4,8 +4,6 @@ use Rattle.std.specs.List.{All}
 use Rattle.std.proofs.lemmas.List.{get_or_past, take_at}
 use Rattle.std.proofs.lemmas.List.Elements.{All-nil, All-cons, All-head, All-tail, All-take, All-map, All-filter}
 use Rattle.std.proofs.lemmas.Bool.{cases_lt}
-use Rattle.std.specs.Cmp.{IsTotalOrder}
-use Rattle.std.proofs.lemmas.Cmp.{nat_cmp_total, then_total, on_total}
 use Rattle.std.specs.FinMap as map
 use Rattle.claim_types.specs.Order.{key_cmp, lease_cmp}
 use Rattle.claim_types.specs.declared.lease.Holding.{Holding}
@@ -34,13 +32,14 @@ use Rattle.claim_types.specs.declared.message.Reply.TheVariants.{Leases as Lease
 use Rattle.cells_base.proofs.Maps.{inserted, removed}
 use Rattle.cells_base.proofs.Entries.{All-entries, found_in}
 use Rattle.claim_map.specs.Registry.{Registry, cell_of}
-use Rattle.claim_map.specs.Pages.{lease_page, leases_behind, claim_page, claims_between, place_cmp, placed, is_listed}
+use Rattle.claim_map.specs.Pages.{lease_page, leases_above, claim_page, claims_between, place_cmp, placed, is_listed}
 use Rattle.claim_map.specs.Ranges.{RangeVerdict, unknown_cell, kept, too_far, exhausted, fresh, range_verdict}
 use Rattle.claim_map.specs.State.{ClaimMap, LeaseState, leases_of, opening}
 use Rattle.claim_map.specs.Verdict.{verdict_of}
 use Rattle.claim_map.specs.Step.{opened, released, claimed, holding_of, applied, rolled_back, after_any}
 use Rattle.claim_map.specs.Due.{Due, key_at, denial_of, begin_due, commit_due, rollback_due, range_due, told, due}
 use Rattle.claim_map.specs.Writable.{IsWritable}
+use Rattle.claim_map.proofs.Places.{places_total}
 use Rattle.claim_map.proofs.Refusals.{Names, NamesIn, names_open}
 
 no_key : IsWritableKey (record { bucket = Route; value = [] })
@@ -78,10 +77,6 @@ module _ (s : ClaimMap) (now : IsWritable (leases_of s)) (lease : LeaseId) (ops 
   begun Again p = ((bounds, tt), now)
   begun (Refused reason) p = ((bounds, denial ops texts reason p), now)
 
--- the order of places is total
-places_total : IsTotalOrder place_cmp
-places_total = then_total (on_total (λ (p : ℕ × ClaimKey). p.0) nat_cmp_total) (on_total (λ (p : ℕ × ClaimKey). p.1) keys_total)
-
 -- holders after keys are released and claimed
 AreHeld : map.FinMap key_cmp Holding → Type 0
 AreHeld holder = (key : ClaimKey) (h : Holding) → map.get holder key ≡ Some h → IsWritableKey key
@@ -115,8 +110,8 @@ module _ (s : LeaseState) (now : IsWritable s) where
   applied_too lease (Some ops) is = record {
     begun = λ l o at. now.begun l o (removed leases_total leases_exact s.begun lease l o at).1;
     holder = claimed_too lease.cell ops.creates (released ops.destroys s.holder)
-      (creates_text ops.creates (front_of (maps (λ c. c.key) ops.creates) ops.destroys (now.begun lease ops is).1.keys))
-      (released_too ops.destroys s.holder now.holder);
+        (creates_text ops.creates (front_of (maps (λ c. c.key) ops.creates) ops.destroys (now.begun lease ops is).1.keys))
+        (released_too ops.destroys s.holder now.holder);
   }
 
   rolled_too : (lease : LeaseId) → IsWritable (rolled_back s lease)
@@ -124,7 +119,7 @@ module _ (s : LeaseState) (now : IsWritable s) where
 
   listed : (cell : ℕ) (last : Option LeaseId) → AreWritableLeases (lease_page s cell last).leases
   listed cell last =
-      All-take IsLease LEASES_A_PAGE (leases_behind s.begun cell last)
+      All-take IsLease LEASES_A_PAGE (leases_above s.begun cell last)
       (All-filter _ IsLease (map.keys s.begun)
       (All-map IsLease (λ (e : LeaseId × Operations). e.0) (map.entries s.begun)
       (All-entries leases_total (λ (e : LeaseId × Operations). IsLease e.0) s.begun (λ l o is. (now.begun l o is).0))))
@@ -137,10 +132,10 @@ module _ (s : LeaseState) (now : IsWritable s) where
       (All-map is_text (λ (e : (ℕ × ClaimKey) × ClaimItem). e.1) (map.entries (map.from_entries {R = place_cmp} placed_claims))
       (All-entries places_total (λ (e : (ℕ × ClaimKey) × ClaimItem). is_text e.1) (map.from_entries {R = place_cmp} placed_claims)
       (λ k v is. found_in place_cmp is_text k v placed_claims
-        (All-map (λ (e : (ℕ × ClaimKey) × ClaimItem). is_text e.1) placed (filter (is_listed cell bucket first last after) (map.entries s.holder))
-        (All-filter (is_listed cell bucket first last after) (λ (e : ClaimKey × Holding). IsWritableKey e.0) (map.entries s.holder)
-        (All-entries keys_total (λ (e : ClaimKey × Holding). IsWritableKey e.0) s.holder (λ key h at. now.holder key h at))))
-        (sym (map.get-from_entries places_total placed_claims k) ∙ is))))
+      (All-map (λ (e : (ℕ × ClaimKey) × ClaimItem). is_text e.1) placed (filter (is_listed cell bucket first last after) (map.entries s.holder))
+      (All-filter (is_listed cell bucket first last after) (λ (e : ClaimKey × Holding). IsWritableKey e.0) (map.entries s.holder)
+      (All-entries keys_total (λ (e : ClaimKey × Holding). IsWritableKey e.0) s.holder (λ key h at. now.holder key h at))))
+      (sym (map.get-from_entries places_total placed_claims k) ∙ is))))
 
 abbrev Written : ClaimMap → Due → Type 0
 Written s d = IsWritableReply d.reply × IsWritable (leases_of (after_any s d.step))

@@ -15,19 +15,19 @@ use Rattle.claim_types.specs.declared.page.ClaimPage.{ClaimPage}
 use Rattle.claim_types.specs.declared.limits.TheConstants.{LEASES_A_PAGE, CLAIMS_A_PAGE}
 use Rattle.claim_map.specs.State.{LeaseState}
 
--- a lease stands behind this one, or there is none to stand behind
-abbrev pub is_behind : Option LeaseId → LeaseId → Bool
-is_behind None lease = true
-is_behind (Some last) lease = is_lt (lease_cmp last lease)
+-- above this lease; without one, any lease
+abbrev pub is_above : Option LeaseId → LeaseId → Bool
+is_above None lease = true
+is_above (Some last) lease = is_lt (lease_cmp last lease)
 
--- the open leases of a cell behind this one, in order
-abbrev pub leases_behind : map.FinMap lease_cmp Operations → ℕ → Option LeaseId → List LeaseId
-leases_behind begun cell last = filter (λ l. nat_eq l.cell cell && is_behind last l) (map.keys begun)
+-- the open leases of a cell above this one, in order
+abbrev pub leases_above : map.FinMap lease_cmp Operations → ℕ → Option LeaseId → List LeaseId
+leases_above begun cell last = filter (λ l. nat_eq l.cell cell && is_above last l) (map.keys begun)
 
 -- the first page of them
 abbrev pub lease_page : LeaseState → ℕ → Option LeaseId → LeasePage
 lease_page s cell last =
-    let leases = leases_behind s.begun cell last in
+    let leases = leases_above s.begun cell last in
     record { leases = take LEASES_A_PAGE leases; more = nat_lt LEASES_A_PAGE (length leases) }
 
 -- places by row, and then by key
@@ -46,7 +46,7 @@ abbrev pub is_listed : ℕ → Bucket → ℕ → ℕ → ℕ → ClaimKey × Ho
 is_listed cell bucket first last after e =
     nat_eq e.1.cell cell && nat_eq (bucket_number e.0.bucket) (bucket_number bucket) && nat_le first e.1.origin.row && nat_le e.1.origin.row last && nat_lt after e.1.origin.row
 
--- these claims, in the order of their places
+-- these claims, in the order of their places, which no two of them share
 abbrev pub claims_between : map.FinMap key_cmp Holding → ℕ → Bucket → ℕ → ℕ → ℕ → List ClaimItem
 claims_between holder cell bucket first last after =
     map.values (map.from_entries {R = place_cmp} (map placed (filter (is_listed cell bucket first last after) (map.entries holder))))

@@ -25,8 +25,8 @@ pub record Tree : Type 0 where
   pub used : ℕ
   pub version : ℕ
 
--- who holds each key, which leases are open with which operations, which leases their cell has recorded,
--- how the others ended, the ranges in the order of giving, and each cell's tree
+-- who holds each key; which leases are open, with which operations; which of these their cell has recorded; how each settled lease
+-- ended; the ranges in the order of giving; each cell's tree
 pub record ClaimMap : Type 0 where
   pub holder : map.FinMap key_cmp Holding
   pub begun : map.FinMap lease_cmp Operations

@@ -39,7 +39,7 @@ applied s lease None = s
 applied s lease (Some ops) = record {
   holder = claimed lease.cell ops.creates (released ops.destroys s.holder);
   begun = map.remove s.begun lease;
-  settled = map.insert s.settled lease AsCommitted
+  settled = map.insert s.settled lease AsCommitted;
 }
 
 -- an open lease is applied
@@ -54,10 +54,10 @@ rolled_back s lease = record s { begun = map.remove s.begun lease; settled = map
 abbrev pub recorded : ClaimMap → LeaseId → Change → ClaimMap
 recorded s lease change = record s {
   recorded = set.insert s.recorded lease;
-  trees = map.insert s.trees lease.cell (changed_by (tree_of s lease.cell) change (ranges_of s.given lease.cell))
+  trees = map.insert s.trees lease.cell (changed_by (tree_of s lease.cell) change (ranges_of s.given lease.cell));
 }
 
--- the claim map after a step
+-- the claim map after a step; what it says of a step that is not legal has no meaning
 abbrev pub after : ClaimMap → Step → ClaimMap
 after s (Leased lease ops) = with_leases s (opened (leases_of s) lease ops)
 after s (Denied lease denial) = s

@@ -18,7 +18,7 @@ use Rattle.claim_types.specs.declared.verdict.Verdict.TheVariants.{Fresh, Again,
 use Rattle.claim_types.specs.declared.limits.TheConstants.{OPERATIONS, OPEN_LEASES}
 use Rattle.claim_map.specs.State.{LeaseState, covers}
 
--- The claims are free for a lease: it may be opened without a conflict.
+-- The claims are free for a lease: no claim of the operations is in anybody's way, and the rows are the cell's own.
 pub record IsFree (s : LeaseState) (given : List Range) (lease : LeaseId) (ops : Operations) : Type 0 where
   -- no created key is held
   pub unheld : (c : Create) → Contains ops.creates c → map.get s.holder c.key ≡ None

@@ -17,18 +17,11 @@ use Rattle.claim_types.specs.declared.lease.Holding.{Holding}
 use Rattle.claim_types.specs.declared.page.ClaimItem.{ClaimItem}
 use Rattle.claim_types.proofs.Ordered.{keys_total, keys_exact, both_equal}
 use Rattle.claim_map.specs.Pages.{place_cmp, placed}
+use Rattle.claim_map.proofs.Places.{places_total, places_exact}
 use Rattle.lease_core.specs.declared.items.HeldItem.{HeldItem}
 use Rattle.lease_core.specs.Kept.{held_entry, held_entries, AreHeld, claim_entries}
 use Rattle.lease_core.proofs.Sorted.{both, above, below_each, from_none}
 use Rattle.lease_core.proofs.First.{put_first}
-
-pub places_total : IsTotalOrder place_cmp
-places_total = then_total (on_total (λ (p : ℕ × ClaimKey). p.0) nat_cmp_total) (on_total (λ (p : ℕ × ClaimKey). p.1) keys_total)
-
-pub places_exact : IsAntisymmetric place_cmp
-places_exact a b h =
-    let equal = both_equal (nat_cmp a.0 b.0) (key_cmp a.1 b.1) h in
-    λ i. (nat_cmp-IsAntisymmetric a.0 b.0 equal.0 i, keys_exact a.1 b.1 equal.1 i)
 
 -- each of these keys is below this one
 abbrev AllUnder : ClaimKey → List (ClaimKey × Holding) → Type 0

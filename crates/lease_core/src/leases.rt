@@ -212,7 +212,7 @@ impl Leases {
     ) -> Result<LeasePage, NoMemory>
         ensures { IfOk result (λ page. page ≡ lease_page self.now cell after) }
     {
-        let found = pages::leases_behind(alloc, &self.begun, cell, after, pages::LEASES_SOUGHT)?;
+        let found = pages::leases_above(alloc, &self.begun, cell, after, pages::LEASES_SOUGHT)?;
         let (leases, more) = pages::page_of(found, LEASES_A_PAGE as usize);
         Ok(LeasePage { leases, more })
     }

@@ -3,7 +3,7 @@ ghost use Rattle.std.specs.List.Sorted.{IsSearchInRange};
 ghost use Rattle.std.specs.FinMap.{FinMap, values, from_entries};
 ghost use Rattle.std.specs.FinMap.Entries.{put};
 ghost use Rattle.claim_types.specs.Order.{lease_cmp};
-ghost use Rattle.claim_map.specs.Pages.{is_behind as stands_behind, place_cmp, placed, is_listed};
+ghost use Rattle.claim_map.specs.Pages.{is_above as stands_behind, place_cmp, placed, is_listed};
 ghost use Rattle.lease_core.specs.Search.{IsFound};
 ghost use Rattle.lease_core.specs.Kept.{held_entry, held_entries, AreHeld, claim_entries, AreClaims};
 
@@ -31,7 +31,7 @@ pub fn page_of<T: Drop>(mut items: Vec<T>, most: usize) -> (Items<T>, bool)
     (Items::from_vec(items), more)
 }
 
-fn is_behind(last: Option<LeaseId>, lease: LeaseId) -> bool
+fn is_above(last: Option<LeaseId>, lease: LeaseId) -> bool
     ensures { result ≡ stands_behind last lease }
 {
     match last {
@@ -46,11 +46,11 @@ fn is_sought(lease: LeaseId, cell: u16, last: Option<LeaseId>) -> bool
     if lease.cell != cell {
         return false;
     }
-    is_behind(last, lease)
+    is_above(last, lease)
 }
 
 /// The first open leases of a cell behind this one, at most so many.
-pub fn leases_behind(
+pub fn leases_above(
     alloc: Global,
     begun: &[BegunItem],
     cell: u16,

@@ -4,7 +4,7 @@ use Rattle.claim_types.specs.declared.page.ClaimItem.{ClaimItem}
 use Rattle.claim_map.specs.Pages.{place_cmp}
 use Rattle.lease_core.specs.Kept.{claim_entry}
 use Rattle.lease_core.proofs.Sorted.{searched}
-use Rattle.lease_core.proofs.Claims.{places_total, places_exact}
+use Rattle.claim_map.proofs.Places.{places_total, places_exact}
 use Rattle.lease_core.proofs.pages.place_among.Goals as goal
 
 pub returns-clause-found : goal.returns-clause-found

@@ -4,7 +4,7 @@ use Rattle.claim_types.specs.declared.page.ClaimItem.{ClaimItem}
 use Rattle.claim_map.specs.Pages.{placed}
 use Rattle.lease_core.specs.Kept.{held_entry, claim_entry, claim_entries}
 use Rattle.lease_core.proofs.First.{first_set, first_inserted, first_past, first_sorted}
-use Rattle.lease_core.proofs.Claims.{places_total, places_exact}
+use Rattle.claim_map.proofs.Places.{places_total, places_exact}
 use Rattle.lease_core.proofs.pages.put_claim.Goals as goal
 
 pub returns-in_ok-claims-in-Ok-clause-after : goal.returns-in_ok-claims-in-Ok-clause-after

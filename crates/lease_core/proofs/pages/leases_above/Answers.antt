@@ -1,15 +1,15 @@
 use Rattle.std.proofs.Common.{◌≡◌, ◌∙◌, ◌&&◌, nat_eq, ap, sym, subst, arith, length, ◌+◌, ◌<◌, ◌++◌, ◌-◌, List, map, filter, take, drop}
 use Rattle.claim_types.specs.declared.lease.LeaseId.{LeaseId}
-use Rattle.claim_map.specs.Pages.{is_behind}
+use Rattle.claim_map.specs.Pages.{is_above}
 use Rattle.lease_core.specs.declared.items.BegunItem.{BegunItem}
 use Rattle.lease_core.proofs.First.{passed_by, taken_in}
-use Rattle.lease_core.proofs.pages.leases_behind.Goals as goal
-use Rattle.lease_core.proofs.pages.leases_behind.Goals.{then-is_sought+in_ok-push, else-is_sought}
+use Rattle.lease_core.proofs.pages.leases_above.Goals as goal
+use Rattle.lease_core.proofs.pages.leases_above.Goals.{then-is_sought+in_ok-push, else-is_sought}
 
 pub loop-item-preserved : goal.loop-item-preserved
 loop-item-preserved c =
     let lease = λ (it : BegunItem). it.lease in
-    let sought = λ (r : LeaseId). nat_eq r.cell c.args.cell && is_behind c.args.last r in
+    let sought = λ (r : LeaseId). nat_eq r.cell c.args.cell && is_above c.args.last r in
     let begun = c.args.begun.now in
     let i = c.loop-item.item-index in
     let whole = take c.args.most (filter sought (map lease begun)) in

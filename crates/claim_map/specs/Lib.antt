@@ -6,3 +6,4 @@ pub mod Step
 pub mod Pages
 pub mod Due
 pub mod Writable
+pub mod Ranges

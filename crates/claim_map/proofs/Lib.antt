@@ -1,3 +1,4 @@
 pub mod Refusals
 pub mod Written
 pub mod Fresh
+pub mod Ranges

@@ -1,5 +1,5 @@
 -- Ranges stay sound as they are given, and a number that is no further than the next one was given or is the next one.
-use Rattle.std.proofs.Common.{◌≡◌, ◌≢◌, ℕ, zero, suc, ◌+◌, ◌-◌, ◌<◌, ◌≤◌, Bool, true, false, ◌&&◌, nat_eq, nat_le, List, [], ◌∷◌, ◌++◌, length, take, get_or, count_by, Option, Some, None, cond, inl, inr, ◌⊎◌, refl, sym, ◌∙◌, ap, subst, arith, rules}
+use Rattle.std.proofs.Common.{◌≡◌, ◌≢◌, ℕ, zero, suc, ◌+◌, ◌-◌, ◌<◌, ◌≤◌, Bool, true, false, ◌&&◌, nat_eq, nat_lt, List, [], ◌∷◌, ◌++◌, length, take, get_or, count_by, Option, Some, None, cond, inl, inr, ◌⊎◌, refl, sym, ◌∙◌, ap, subst, arith, rules}
 use Rattle.std.proofs.lemmas.Grind.{common_steps}
 use Rattle.std.proofs.lemmas.Bool.{eqb-true, eqb-false}
 use Rattle.std.proofs.lemmas.List.{take_all}
@@ -9,7 +9,9 @@ use Rattle.std.specs.Option.{option_map_or}
 use Rattle.std.specs.List.{slice_get, find}
 use Rattle.claim_types.specs.declared.cell.Range.{Range}
 use Rattle.claim_types.specs.declared.limits.TheConstants.{GREATEST_IDENTIFIER}
-use Rattle.claim_map.specs.Ranges.{given_as, next_number, last_end, follows, AreRanges}
+use Rattle.claim_types.specs.declared.cell.Cell.{Cell}
+use Rattle.claim_map.specs.Registry.{Registry, cell_of}
+use Rattle.claim_map.specs.Ranges.{given_as, next_number, last_end, follows, AreRanges, next_range, exhausted, too_far, fresh, fresh_or_exhausted, kept_or_next, verdict_for, range_verdict, given_after}
 
 pub record Follows (given : List Range) (r : Range) : Type 0 where
   pub number : r.number ≡ next_number given r.cell
@@ -38,9 +40,9 @@ slice_get-push (z ∷ xs) y (suc k) x h =
 
 pub AreRanges-push : (given : List Range) (r : Range) → AreRanges given → follows given r ≡ true → AreRanges (given ++ r ∷ [])
 AreRanges-push given r sound next k s h =
-    elim (slice_get-push given r k s h)
-    [ inl p ↦ ap (λ earlier. follows earlier s) p.1 ∙ sound k s p.0
-    | inr p ↦ ap (λ earlier. follows earlier s) p.1 ∙ ap (λ x. follows given x) p.0 ∙ next
+    elim (slice_get-push given r k s h) [
+      | inl p ↦ ap (λ earlier. follows earlier s) p.1 ∙ sound k s p.0
+      | inr p ↦ ap (λ earlier. follows earlier s) p.1 ∙ ap (λ x. follows given x) p.0 ∙ next
     ]
 
 -- what is found passes, and where nothing is found nothing does
@@ -97,3 +99,26 @@ module _ (given : List Range) (sound : AreRanges given) (cell n : ℕ) (positive
 -- a range with its cell's next number, from just past the last one and of some width within the identifiers, may follow
 pub next-follows : (given : List Range) (cell next last width : ℕ) → next ≡ next_number given cell → last ≡ last_end given → 1 ≤ width → last + width ≤ GREATEST_IDENTIFIER → follows given (record { cell = cell; number = next; low = last + 1; high = last + width }) ≡ true
 next-follows given cell next last width is ends wide fits = grind (arith, common_steps)
+
+-- the ranges stay sound after each request
+module _ (given : List Range) (sound : AreRanges given) where
+  after-next : (c : Cell) → 1 ≤ c.width → (b : Bool) → nat_lt GREATEST_IDENTIFIER (last_end given + c.width) ≡ b → AreRanges (given_after (cond b (exhausted (last_end given)) (fresh (next_range given c))) given)
+  after-next c wide true h = sound
+  after-next c wide false h =
+      let fits : last_end given + c.width ≤ GREATEST_IDENTIFIER = grind (arith, common_steps) in
+      AreRanges-push given (next_range given c) sound (next-follows given c.id (next_number given c.id) (last_end given) c.width refl refl wide fits)
+
+  after-number : (c : Cell) → 1 ≤ c.width → (b : Bool) → AreRanges (given_after (cond b (too_far (next_number given c.id)) (fresh_or_exhausted given (next_range given c))) given)
+  after-number c wide true = sound
+  after-number c wide false = after-next c wide (nat_lt GREATEST_IDENTIFIER (last_end given + c.width)) refl
+
+  after-kept : (kept_range : Option Range) (c : Cell) (number : ℕ) → 1 ≤ c.width → AreRanges (given_after (kept_or_next kept_range given c number) given)
+  after-kept (Some r) c number wide = sound
+  after-kept None c number wide = after-number c wide (nat_lt (next_number given c.id) number)
+
+  after-cell : (found : Option Cell) (number : ℕ) → ((c : Cell) → found ≡ Some c → 1 ≤ c.width) → AreRanges (given_after (verdict_for found given number) given)
+  after-cell None number wide = sound
+  after-cell (Some c) number wide = after-kept (given_as given c.id number) c number (wide c refl)
+
+  pub given_after-sound : (registry : Registry) (cell number : ℕ) → ((c : Cell) → cell_of registry cell ≡ Some c → 1 ≤ c.width) → AreRanges (given_after (range_verdict registry given cell number) given)
+  given_after-sound registry cell number wide = after-cell (cell_of registry cell) number wide

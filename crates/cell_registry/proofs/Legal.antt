@@ -1,5 +1,5 @@
 -- A configuration that is read without a fault is legal.
-use Rattle.std.proofs.Common.{◌≡◌, ℕ, ℤ, pos, negsuc, suc, ◌+◌, ◌≤◌, Bool, true, false, ◌&&◌, cond, nat_lt, nat_le, List, [], ◌∷◌, length, Option, Some, None, is_some, is_none, option_map, unwrap_or, option_and_then, refl, sym, ◌∙◌, ap, subst, arith, rules}
+use Rattle.std.proofs.Common.{◌≡◌, ℕ, ℤ, pos, negsuc, suc, ◌≤◌, Bool, true, false, ◌&&◌, cond, nat_lt, List, [], ◌∷◌, length, Option, Some, None, is_none, option_map, unwrap_or, option_and_then, refl, sym, ◌∙◌, ap, arith}
 use Rattle.std.specs.Prelude.{IsTrue, IfSome}
 use Rattle.std.specs.List.{list_all, filter_map, cons_option}
 use Rattle.std.proofs.lemmas.Grind.{common_steps}
@@ -7,14 +7,11 @@ use Rattle.std.proofs.lemmas.Option.{same_Some}
 use Rattle.toml.specs.Data.{Data}
 use Rattle.claim_types.specs.declared.cell.Cell.{Cell}
 use Rattle.claim_types.specs.declared.limits.TheConstants.{GREATEST_CELL, GREATEST_IDENTIFIER}
-use Rattle.claim_map.specs.Registry.{Registry}
 use Rattle.cell_registry.specs.declared.limits.TheConstants.{CELLS, DEFAULT_THRESHOLD, GREATEST_THRESHOLD}
-use Rattle.cell_registry.specs.declared.fault.Name.{Name}
-use Rattle.cell_registry.specs.declared.fault.Name.TheVariants.{Cell as CellName, Id, Prefix, Width, Threshold}
-use Rattle.cell_registry.specs.declared.fault.RegistryFault.{RegistryFault}
-use Rattle.cell_registry.specs.declared.fault.RegistryFault.TheVariants.{TooManyCells, Missing, BadValue}
+use Rattle.cell_registry.specs.declared.fault.Name.TheVariants.{Id, Prefix, Width}
+use Rattle.cell_registry.specs.declared.fault.RegistryFault.TheVariants.{TooManyCells, BadValue}
 use Rattle.cell_registry.specs.Bounds.{is_within, is_prefix, is_cell, is_registry, repeated_id, overlapping, ◌or_else◌}
-use Rattle.cell_registry.specs.Reading.{integer_at, text_at, between, prefix_of, id_in, prefix_in, width_in, cell_with, cell_in, bad_in, missing_in, first_found, too_many, missing, bad_value, value_fault, cells_fault, registry_of}
+use Rattle.cell_registry.specs.Reading.{integer_at, text_at, between, prefix_of, id_in, prefix_in, width_in, cell_with, cell_in, bad_in, first_found, too_many, missing, bad_value, value_fault, cells_fault, registry_of}
 
 -- neither of two is there
 neither : {A : Type 0} (x y : Option A) → (x or_else y) ≡ None → (x ≡ None) × (y ≡ None)

@@ -1,8 +1,8 @@
 -- What the calls that give ranges answer, and what stays.
-use Rattle.std.specs.Prelude.{◌≡◌, Bool, true, IsTrue, List, [], ◌∷◌, ◌++◌, Result, Ok, Err}
+use Rattle.std.specs.Prelude.{◌≡◌, Bool, IsTrue, Result, Ok, Err}
 use Rattle.cells_base.specs.declared.memory.NoMemory.{NoMemory}
 use Rattle.claim_types.specs.declared.cell.Range.{Range}
-use Rattle.claim_map.specs.Ranges.{RangeVerdict, unknown_cell, kept, too_far, exhausted, fresh, given_after}
+use Rattle.claim_map.specs.Ranges.{RangeVerdict, unknown_cell, kept, too_far, exhausted, fresh}
 use Rattle.cell_registry.specs.declared.fault.RangeFault.{RangeFault}
 use Rattle.cell_registry.specs.declared.fault.RangeFault.TheVariants.{UnknownCell, TooFar, Exhausted, Memory}
 

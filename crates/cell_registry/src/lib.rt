@@ -28,11 +28,15 @@
 //! is a list in which each range follows those before it. After want of memory all is as it was.
 #![tactic(auto)]
 
+mod bounds;
+mod clash;
 mod fault;
 mod limits;
 mod ranges;
 mod read;
 mod registry;
+#[cfg(test)]
+mod tests;
 
 pub use claim_types::{Cell, Range};
 pub use fault::{Name, RangeFault, RegistryFault};

@@ -1,45 +1,20 @@
 //! A configuration is read off the tree that TOML gives.
-ghost use Rattle.std.specs.Prelude.{◌≡◌, nat_eq, Some, ◌≤◌, ◌<◌, [], map, option_copied, option_map, IfOk, IfSome, IsTrue, length, ◌+◌, Option, take, drop};
-ghost use Rattle.std.specs.List.{filter_map, list_all, list_any, find};
+ghost use Rattle.std.specs.Prelude.{◌≡◌, Some, map, option_copied, IfOk, IfSome, IsTrue};
+ghost use Rattle.std.specs.List.{filter_map};
 ghost use Rattle.toml.specs.Parse.{parse_document};
 ghost use Rattle.toml.specs.View.{view};
-ghost use Rattle.cell_registry.specs.declared.fault.RegistryFault.TheVariants.{PrefixOverlap};
 ghost use Rattle.cell_registry.specs.Bounds as bounds;
 ghost use Rattle.cell_registry.specs.Reading as spec;
 ghost use Rattle.cell_registry.specs.Reading.{Gives};
 
-use crate::{
-    CELLS, Cells, DEFAULT_THRESHOLD, GREATEST_THRESHOLD, Name, PREFIX_BYTES, Registry,
-    RegistryFault,
-};
+use crate::bounds::{is_prefix, is_within};
+use crate::clash::cells_fault;
+use crate::{CELLS, Cells, DEFAULT_THRESHOLD, GREATEST_THRESHOLD, Name, Registry, RegistryFault};
 use claim_types::{Cell, GREATEST_CELL, GREATEST_IDENTIFIER, NoMemory, Text};
 use std::alloc::Global;
 use toml::Value;
 
-fn is_within(low: u64, high: u64, n: u64) -> bool
-    ensures { result ≡ bounds.is_within low high n }
-{
-    low <= n && n <= high
-}
-
-fn is_prefix_byte(byte: u8) -> bool
-    ensures { result ≡ bounds.is_prefix_byte byte }
-{
-    matches!(byte, b'a'..=b'z' | b'0'..=b'9' | b'-' | b'_')
-}
-
-fn are_prefix_bytes(text: &[u8]) -> bool
-    ensures { result ≡ list_all bounds.is_prefix_byte text.now }
-{
-    text.iter().all(|byte| is_prefix_byte(*byte))
-}
-
-fn is_prefix(text: &[u8]) -> bool
-    ensures { result ≡ bounds.is_prefix text.now }
-{
-    is_within(1, PREFIX_BYTES, text.len() as u64) && are_prefix_bytes(text)
-}
-
+// The integer that a table gives under a name.
 fn integer_at(name: Name, value: &Value) -> Option<i64>
     ensures { result ≡ spec.integer_at name (view value.now) }
 {
@@ -58,6 +33,7 @@ fn text_at(name: Name, value: &Value) -> Option<&str>
     }
 }
 
+// An integer, if it is from `low` to `high`.
 fn between(low: u64, high: u64, n: i64) -> Option<u64>
     ensures value { result ≡ spec.between low high n }
     ensures bounds { IfSome result (λ n. IsTrue (bounds.is_within low high n)) }
@@ -97,6 +73,7 @@ fn width_in(value: &Value) -> Option<u64>
     between(1, GREATEST_IDENTIFIER, integer_at(Name::Width, value)?)
 }
 
+// The first value that a cell lacks, or has of another kind.
 fn missing_in(value: &Value) -> Option<Name>
     ensures { result ≡ spec.missing_in (view value.now) }
 {
@@ -112,6 +89,7 @@ fn missing_in(value: &Value) -> Option<Name>
     None
 }
 
+// The first value of a cell that is not legal.
 fn bad_in(value: &Value) -> Option<Name>
     ensures { result ≡ spec.bad_in (view value.now) }
 {
@@ -151,6 +129,7 @@ fn first_bad(given: &[Value]) -> Option<Name>
     None
 }
 
+// The tables `[[cell]]`.
 fn cells_given(tree: &Value) -> &[Value]
     ensures { map view result.now ≡ spec.cells_given (view tree.now) }
 {
@@ -186,6 +165,7 @@ fn threshold_in(tree: &Value) -> Option<u64>
     }
 }
 
+// What is wrong with the values, before the cells are held against each other.
 fn value_fault(threshold: Option<u64>, given: &[Value]) -> Option<RegistryFault>
     ensures { result ≡ spec.value_fault threshold (map view given.now) }
 {
@@ -209,6 +189,7 @@ fn value_fault(threshold: Option<u64>, given: &[Value]) -> Option<RegistryFault>
     }
 }
 
+// A cell, if its values are all legal.
 fn cell_in(alloc: Global, value: &Value) -> Result<Option<Cell>, NoMemory>
     ensures { IfOk result (λ cell. cell ≡ spec.cell_in (view value.now)) }
 {
@@ -237,84 +218,14 @@ fn cells_in(alloc: Global, given: &[Value]) -> Result<Cells, NoMemory>
     Ok(cells)
 }
 
-fn front(cells: &[Cell], at: usize) -> &[Cell]
-    requires { at ≤ length cells.now }
-    ensures { result.now ≡ take at cells.now }
-{
-    &cells[..at]
-}
-
-fn behind(cells: &[Cell], at: usize) -> &[Cell]
-    requires { at < length cells.now }
-    ensures { result.now ≡ drop (at + 1) cells.now }
-{
-    &cells[at + 1..]
-}
-
-fn has_id(cells: &[Cell], id: u16) -> bool
-    ensures { result ≡ list_any (λ c. nat_eq c.id id) cells.now }
-{
-    cells.iter().any(|cell| cell.id == id)
-}
-
-fn repeated_id(cells: &[Cell]) -> Option<RegistryFault>
-    ensures { result ≡ bounds.repeated_id [] cells.now }
-{
-    for (index, cell) in cells.iter().enumerate() {
-        if has_id(front(cells, index), cell.id) {
-            return Some(RegistryFault::Duplicate { id: cell.id });
-        }
-    }
-    None
-}
-
-fn overlap(a: &[u8], b: &[u8]) -> bool
-    ensures { result ≡ bounds.overlap a.now b.now }
-{
-    a.starts_with(b) || b.starts_with(a)
-}
-
-// The first of these cells whose prefix overlaps with that of a cell before them.
-fn overlap_behind(cell: &Cell, others: &[Cell]) -> Option<RegistryFault>
-    ensures { result ≡ option_map (λ d. PrefixOverlap cell.now.id d.id) (find (λ d. bounds.overlap cell.now.prefix d.prefix) others.now) }
-{
-    others
-        .iter()
-        .find(|other| overlap(cell.prefix.as_slice(), other.prefix.as_slice()))
-        .map(|other| RegistryFault::PrefixOverlap {
-            a: cell.id,
-            b: other.id,
-        })
-}
-
-fn overlapping(cells: &[Cell]) -> Option<RegistryFault>
-    ensures { result ≡ bounds.overlapping cells.now }
-{
-    for (index, cell) in cells.iter().enumerate() {
-        let found = overlap_behind(cell, behind(cells, index));
-        if found.is_some() {
-            return found;
-        }
-    }
-    None
-}
-
-fn cells_fault(cells: &[Cell]) -> Option<RegistryFault>
-    ensures { result ≡ spec.cells_fault cells.now }
-{
-    match repeated_id(cells) {
-        Some(fault) => Some(fault),
-        None => overlapping(cells),
-    }
-}
-
 fn registry_given(
     alloc: Global,
     threshold: Option<u64>,
     given: &[Value],
 ) -> Result<Registry, RegistryFault>
     requires { IfSome threshold (λ n. IsTrue (bounds.is_within 1 GREATEST_THRESHOLD n)) }
-    ensures { Gives result (spec.registry_given threshold (map view given.now)) }
+    ensures value { Gives result (spec.registry_given threshold (map view given.now)) }
+    ensures legal { IfOk result (λ registry. IsTrue (bounds.is_registry registry)) }
 {
     if let Some(fault) = value_fault(threshold, given) {
         return Err(fault);
@@ -328,13 +239,15 @@ fn registry_given(
 }
 
 fn registry_in(alloc: Global, tree: &Value) -> Result<Registry, RegistryFault>
-    ensures { Gives result (spec.registry_in (view tree.now)) }
+    ensures value { Gives result (spec.registry_in (view tree.now)) }
+    ensures legal { IfOk result (λ registry. IsTrue (bounds.is_registry registry)) }
 {
     registry_given(alloc, threshold_in(tree), cells_given(tree))
 }
 
 fn registry_read(alloc: Global, text: &str) -> Result<Registry, RegistryFault>
-    ensures { Gives result (spec.registry_read (parse_document text.now)) }
+    ensures value { Gives result (spec.registry_read (parse_document text.now)) }
+    ensures legal { IfOk result (λ registry. IsTrue (bounds.is_registry registry)) }
 {
     match toml::table_from_str(alloc, text) {
         Ok(table) => registry_in(alloc, &Value::Table(table)),
@@ -352,7 +265,8 @@ impl Registry {
     /// text before the next; of several of one kind that of `[service]` comes first, then those of the
     /// cells in order, and in a cell those of `id`, `prefix`, `width`.
     pub fn read_toml(alloc: Global, text: &[u8]) -> Result<Registry, RegistryFault>
-        ensures { Gives result (spec.registry_text text.now) }
+        ensures value { Gives result (spec.registry_text text.now) }
+        ensures legal { IfOk result (λ registry. IsTrue (bounds.is_registry registry)) }
     {
         match str::from_utf8(text) {
             Ok(text) => registry_read(alloc, text),

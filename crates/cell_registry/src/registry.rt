@@ -11,7 +11,7 @@ pub type Cells = Items<Cell>;
 
 /// The configuration: its cells, and the age from which an attempt may be ended. Contracts see it as
 /// the record of these two.
-#[derive(Debug, Drop)]
+#[derive(Drop)]
 pub struct Registry {
     cells: Cells,
     // In seconds.
@@ -35,7 +35,8 @@ impl Registry {
     /// The configuration of these cells and this threshold in seconds, which have to be legal.
     pub fn from_cells(cells: Cells, threshold: u64) -> Self
         requires { IsTrue (is_registry (record { cells = cells; threshold = threshold })) }
-        ensures { result ≡ record { cells = cells; threshold = threshold } }
+        ensures value { result ≡ record { cells = cells; threshold = threshold } }
+        ensures legal { IsTrue (is_registry result) }
     {
         Registry { cells, threshold }
     }

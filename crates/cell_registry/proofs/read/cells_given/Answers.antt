@@ -1,4 +1,4 @@
-use Rattle.std.proofs.Common.{map, ◌∙◌, ap, sym}
+use Rattle.std.proofs.Common.{map, ◌∙◌, ap}
 use Rattle.toml.specs.View.{view}
 use Rattle.cell_registry.proofs.Listed.{cells_listed}
 use Rattle.cell_registry.proofs.read.cells_given.Goals as goal

@@ -1,4 +1,4 @@
-use Rattle.std.proofs.Common.{◌≡◌, ◌≤◌, List, Option, None, sym, ◌∙◌, ap, arith}
+use Rattle.std.proofs.Common.{◌≡◌, ◌≤◌, List, None, sym, ◌∙◌, ap, arith}
 use Rattle.claim_types.specs.declared.cell.Range.{Range}
 use Rattle.claim_map.specs.Ranges.{given_as, next_number, last_end}
 use Rattle.claim_map.proofs.Ranges.{AreRanges-push, next-follows, next_is}

@@ -3,3 +3,4 @@ pub mod Written
 pub mod Fresh
 pub mod Free
 pub mod Places
+pub mod Ranges

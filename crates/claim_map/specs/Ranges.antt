@@ -1,12 +1,11 @@
 -- How identifiers are given to cells: in ranges, one behind the other, and each cell's numbered from 1.
-use Rattle.std.specs.Prelude.{◌≡◌, ℕ, ◌+◌, ◌-◌, Bool, true, ◌&&◌, nat_eq, nat_lt, nat_le, if◌then◌else◌, List, [], ◌∷◌, ◌++◌, length, take, Option, Some, None}
+use Rattle.std.specs.Prelude.{◌≡◌, ℕ, ◌+◌, ◌-◌, Bool, true, ◌&&◌, nat_eq, nat_lt, nat_le, if◌then◌else◌, List, [], ◌∷◌, ◌++◌, length, take, count_by, Option, Some, None}
 use Rattle.std.specs.Option.{option_map_or}
 use Rattle.std.specs.List.{find, slice_get}
 use Rattle.claim_types.specs.declared.cell.Cell.{Cell}
 use Rattle.claim_types.specs.declared.cell.Range.{Range}
 use Rattle.claim_types.specs.declared.limits.TheConstants.{GREATEST_IDENTIFIER}
 use Rattle.claim_map.specs.Registry.{Registry, cell_of}
-use Rattle.claim_map.specs.State.{ranges_of}
 
 -- the range that a cell was given under a number
 abbrev pub given_as : List Range → ℕ → ℕ → Option Range
@@ -14,7 +13,7 @@ given_as given cell number = find (λ r. nat_eq r.cell cell && nat_eq r.number n
 
 -- a cell's next number: one more than it was given ranges
 abbrev pub next_number : List Range → ℕ → ℕ
-next_number given cell = length (ranges_of given cell) + 1
+next_number given cell = count_by (λ r. nat_eq r.cell cell) given + 1
 
 -- the end of the last range given to any cell, 0 where none was given
 abbrev pub last_end : List Range → ℕ

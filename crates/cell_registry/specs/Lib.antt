@@ -1,0 +1,4 @@
+pub mod Faults
+pub mod Bounds
+pub mod Reading
+pub mod Giving

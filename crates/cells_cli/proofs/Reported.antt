@@ -1,21 +1,21 @@
 -- What a report says, by how its answering stopped.
-use Rattle.std.proofs.Common.{◌≡◌, ◌≢◌, ◌⊎◌, inl, inr, ℕ, ◌-◌, List, [], ◌∷◌, ◌++◌, take, Result, Err, Bool, true, append_assoc, refl, sym, ◌∙◌, ap, subst}
+use Rattle.std.proofs.Common.{◌≡◌, ◌≢◌, ◌⊎◌, inl, inr, ℕ, ◌-◌, List, [], ◌∷◌, ◌++◌, take, Result, Ok, Err, Bool, true, append_assoc, refl, sym, ◌∙◌, ap, subst}
 use Rattle.std.proofs.lemmas.List.{append-nil}
 use Rattle.cells_edge.specs.Edge.{IsPrefix}
 use Rattle.cells_cli.specs.declared.status.Status.{Status}
-use Rattle.cells_cli.specs.declared.status.Status.TheVariants.{End, Usage, Script, ReadFault, WriteFault, Memory}
+use Rattle.cells_cli.specs.declared.status.Status.TheVariants.{End, Script, ReadFault, WriteFault, Memory}
 use Rattle.cells_cli.specs.declared.replay.Stop.{Stop}
 use Rattle.cells_cli.specs.declared.replay.Stop.TheVariants.{Script as ScriptStop, ReadFault as ReadStop, WriteFault as WriteStop, Memory as MemoryStop}
-use Rattle.cells_cli.specs.Service.{plain_registry, plain_opening}
+use Rattle.cells_cli.specs.Service.{Start}
 use Rattle.cells_cli.specs.Replay.{IsAnswered}
-use Rattle.cells_cli.specs.Report.{status_of, last_line, replies_to, LeavesFront, EndsReplay}
+use Rattle.cells_cli.specs.Report.{status_of, last_line, replies_to, LeavesFront, EndsService}
 
 -- where the sink did not fail, some first lines were answered
-some_answered : (lines : List (List ℕ)) (stop : Stop) (before mid : List ℕ) → stop ≢ WriteStop → IsAnswered plain_registry plain_opening lines (Err stop) before mid → (n : ℕ) × (mid ≡ before ++ replies_to (take n lines))
-some_answered lines (ScriptStop k) before mid other h = (k - 1, h)
-some_answered lines ReadStop before mid other h = h
-some_answered lines WriteStop before mid other h = absurd (other refl)
-some_answered lines MemoryStop before mid other h = h
+some_answered : (start : Start) (lines : List (List ℕ)) (stop : Stop) (before mid : List ℕ) → stop ≢ WriteStop → IsAnswered start.registry start.map lines (Err stop) before mid → (n : ℕ) × (mid ≡ before ++ replies_to (Ok start) (take n lines))
+some_answered start lines (ScriptStop k) before mid other h = (k - 1, h)
+some_answered start lines ReadStop before mid other h = h
+some_answered start lines WriteStop before mid other h = absurd (other refl)
+some_answered start lines MemoryStop before mid other h = h
 
 pub stop_is_script : (stop : Stop) (k : ℕ) → Script k ≡ status_of stop → stop ≡ ScriptStop k
 stop_is_script (ScriptStop j) k h = let e : k ≡ j = cc in ap (λ n. ScriptStop n) (sym e)
@@ -35,17 +35,11 @@ never_end ReadStop h = cc
 never_end WriteStop h = cc
 never_end MemoryStop h = cc
 
-never_usage : (stop : Stop) → Usage ≡ status_of stop → ⊥
-never_usage (ScriptStop j) h = cc
-never_usage ReadStop h = cc
-never_usage WriteStop h = cc
-never_usage MemoryStop h = cc
-
-stops_replay : (stop : Stop) → EndsReplay true (status_of stop)
-stops_replay (ScriptStop j) = tt
-stops_replay ReadStop = tt
-stops_replay WriteStop = tt
-stops_replay MemoryStop = tt
+stops_service : (stop : Stop) → EndsService (status_of stop)
+stops_service (ScriptStop j) = tt
+stops_service ReadStop = tt
+stops_service WriteStop = tt
+stops_service MemoryStop = tt
 
 -- how a run ends that stopped so
 abbrev pub Ends : Stop → Status → Type 0
@@ -62,36 +56,33 @@ module _ (stop : Stop) (result : Status) (ends : Ends stop result) where
   pub no_end : result ≡ End → ⊥
   no_end h = never_end stop (is_own End h (λ e. cc) (λ e. cc))
 
-  pub no_usage : result ≡ Usage → ⊥
-  no_usage h = never_usage stop (is_own Usage h (λ e. cc) (λ e. cc))
-
   pub own_script : (k : ℕ) → result ≡ Script k → stop ≡ ScriptStop k
   own_script k h = stop_is_script stop k (is_own (Script k) h (λ e. cc) (λ e. cc))
 
   pub own_read : result ≡ ReadFault → stop ≡ ReadStop
   own_read h = stop_is_read stop (is_own ReadFault h (λ e. cc) (λ e. cc))
 
-  pub ends_replay : EndsReplay true result
-  ends_replay = elim ends [
-    | inl own ↦ subst (EndsReplay true) (sym own) (stops_replay stop)
-    | inr (inl memory) ↦ subst (EndsReplay true) (sym memory) tt
-    | inr (inr write) ↦ subst (EndsReplay true) (sym write) tt
+  pub ends_service : EndsService result
+  ends_service = elim ends [
+    | inl own ↦ subst (EndsService) (sym own) (stops_service stop)
+    | inr (inl memory) ↦ subst (EndsService) (sym memory) tt
+    | inr (inr write) ↦ subst (EndsService) (sym write) tt
   ]
 
-module _ (lines : List (List ℕ)) (stop : Stop) (before mid now : List ℕ) (other : stop ≢ WriteStop) (answered : IsAnswered plain_registry plain_opening lines (Err stop) before mid) where
-  joined : (n : ℕ) (last : List ℕ) → mid ≡ before ++ replies_to (take n lines) → now ≡ mid ++ last → now ≡ before ++ (replies_to (take n lines) ++ last)
-  joined n last m h = h ∙ ap (λ (bytes : List ℕ). bytes ++ last) m ∙ append_assoc before (replies_to (take n lines)) last
+module _ (start : Start) (lines : List (List ℕ)) (stop : Stop) (before mid now : List ℕ) (other : stop ≢ WriteStop) (answered : IsAnswered start.registry start.map lines (Err stop) before mid) where
+  joined : (n : ℕ) (last : List ℕ) → mid ≡ before ++ replies_to (Ok start) (take n lines) → now ≡ mid ++ last → now ≡ before ++ (replies_to (Ok start) (take n lines) ++ last)
+  joined n last m h = h ∙ ap (λ (bytes : List ℕ). bytes ++ last) m ∙ append_assoc before (replies_to (Ok start) (take n lines)) last
 
-  pub some_lines : (last : List ℕ) → now ≡ mid ++ last → (n : ℕ) × (now ≡ before ++ (replies_to (take n lines) ++ last))
-  some_lines last h = let some = some_answered lines stop before mid other answered in (some.0, joined some.0 last some.1 h)
+  pub some_lines : (last : List ℕ) → now ≡ mid ++ last → (n : ℕ) × (now ≡ before ++ (replies_to (Ok start) (take n lines) ++ last))
+  some_lines last h = let some = some_answered start lines stop before mid other answered in (some.0, joined some.0 last some.1 h)
 
-  pub script_lines : (k : ℕ) → stop ≡ ScriptStop k → (last : List ℕ) → now ≡ mid ++ last → now ≡ before ++ (replies_to (take (k - 1) lines) ++ last)
-  script_lines k is last h = joined (k - 1) last (subst (λ (s : Stop). IsAnswered plain_registry plain_opening lines (Err s) before mid) is answered) h
+  pub script_lines : (k : ℕ) → stop ≡ ScriptStop k → (last : List ℕ) → now ≡ mid ++ last → now ≡ before ++ (replies_to (Ok start) (take (k - 1) lines) ++ last)
+  script_lines k is last h = joined (k - 1) last (subst (λ (s : Stop). IsAnswered start.registry start.map lines (Err s) before mid) is answered) h
 
-  pub some_front : (last : Status) (front : List ℕ) → IsPrefix front (last_line last) → now ≡ mid ++ front → LeavesFront lines before now
+  pub some_front : (last : Status) (front : List ℕ) → IsPrefix front (last_line last) → now ≡ mid ++ front → LeavesFront (Ok start) lines before now
   some_front last front is h =
-      let some = some_answered lines stop before mid other answered in
-      let replies = replies_to (take some.0 lines) in (
+      let some = some_answered start lines stop before mid other answered in
+      let replies = replies_to (Ok start) (take some.0 lines) in (
         some.0,
         last_line last,
         inr (last, refl),
@@ -101,8 +92,17 @@ module _ (lines : List (List ℕ)) (stop : Stop) (before mid now : List ℕ) (ot
       )
 
 -- the sink failed in an answer, or in the one last line
-pub front_of_answers : (lines : List (List ℕ)) (before now : List ℕ) → IsAnswered plain_registry plain_opening lines (Err WriteStop) before now → LeavesFront lines before now
-front_of_answers lines before now h = (h.0, [], inl refl, h.1, (h.2.0, append-nil (replies_to (take h.0 lines)) ∙ h.2.1), h.3)
+pub front_of_answers : (start : Start) (lines : List (List ℕ)) (before now : List ℕ) → IsAnswered start.registry start.map lines (Err WriteStop) before now → LeavesFront (Ok start) lines before now
+front_of_answers start lines before now h = (h.0, [], inl refl, h.1, (h.2.0, append-nil (replies_to (Ok start) (take h.0 lines)) ∙ h.2.1), h.3)
 
-pub front_of_last : (lines : List (List ℕ)) (before now : List ℕ) (last : Status) (front : List ℕ) → IsPrefix front (last_line last) → now ≡ before ++ front → LeavesFront lines before now
-front_of_last lines before now last front is h = (0, last_line last, inr (last, refl), front, is, h)
+-- no line of these is answered
+none_first : (start : Result Start Status) (lines : List (List ℕ)) → replies_to start (take 0 lines) ≡ []
+none_first (Ok start) lines = refl
+none_first (Err status) lines = refl
+
+pub only_last : (start : Result Start Status) (lines : List (List ℕ)) (before now last : List ℕ) → now ≡ before ++ last → now ≡ before ++ (replies_to start (take 0 lines) ++ last)
+only_last start lines before now last h = h ∙ ap (λ (bytes : List ℕ). before ++ (bytes ++ last)) (sym (none_first start lines))
+
+pub front_of_last : (start : Result Start Status) (lines : List (List ℕ)) (before now : List ℕ) (last : Status) (front : List ℕ) → IsPrefix front (last_line last) → now ≡ before ++ front → LeavesFront start lines before now
+front_of_last start lines before now last front is h =
+    (0, last_line last, inr (last, refl), front, (is.0, ap (λ (bytes : List ℕ). bytes ++ last_line last) (none_first start lines) ∙ is.1), h)

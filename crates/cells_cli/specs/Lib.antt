@@ -3,6 +3,7 @@ pub mod Lines
 pub mod Refused
 pub mod Spans
 pub mod Service
+pub mod Config
 pub mod Status
 pub mod Stop
 pub mod Replay

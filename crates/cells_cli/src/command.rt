@@ -1,15 +1,29 @@
-ghost use Rattle.std.specs.Prelude.{◌≡◌, ◌≢◌, ◌-◌, take, ◌+◌, ◌≤◌, ◌++◌, [], ◌∷◌, ◌⊎◌, ◌↔◌, ℕ, List, IsTrue, Some, None, Err, Ok, IfOk, OnErr, string_bytes};
+ghost use Rattle.std.specs.Prelude.{◌≡◌, ◌≢◌, ◌-◌, take, ◌+◌, ◌≤◌, ◌++◌, [], ◌∷◌, ◌⊎◌, ℕ, List, IsTrue, IsOk, Some, None, Err, Ok, IfOk, OnErr, string_bytes};
 ghost use Rattle.cells_base.specs.Causes.{Rose};
 ghost use Rattle.cells_edge.specs.Edge.{IsPrefix};
+ghost use Rattle.claim_map.specs.State.{leases_of};
+ghost use Rattle.claim_map.specs.Writable.{IsWritable};
 ghost use Rattle.cells_cli.specs.Lines.{lines_of, first_refused};
-ghost use Rattle.cells_cli.specs.Report.{are_replay, last_line, replies_to, LeavesFront, EndsReplay};
+ghost use Rattle.cells_cli.specs.Config.{command_of, begins, reads_config};
+ghost use Rattle.cells_cli.specs.Service.{map_of, start_with};
+ghost use Rattle.cells_cli.specs.Report.{last_line, replies_to, LeavesFront, IsRefused, EndsService, Ends};
 
-use crate::Status;
+use crate::config::{ConfigFault, service_for};
 use crate::replay::{Stop, replay};
+use crate::{Service, Status};
 use cells_base::NoMemory;
 use cells_edge::{Sink, SinkFailed, Source, write_all};
 use claim_types::BODY;
 use std::alloc::Global;
+
+/// What the words of a command line ask for.
+#[derive(Clone, Copy, Debug, PartialEq, Eq)]
+pub enum Command {
+    /// `replay`: one cell, which was given one range.
+    Replay,
+    /// `replay --registry`: the cells of the configuration, none of which was given a range.
+    ReplayRegistry,
+}
 
 impl From<Stop> for Status {
     ghost use Rattle.cells_cli.specs.Report.{status_of};
@@ -26,12 +40,30 @@ impl From<Stop> for Status {
     }
 }
 
-fn are_replay(words: &[String]) -> bool
-    ensures { result ≡ are_replay words.now }
+impl From<ConfigFault> for Status {
+    ghost use Rattle.cells_cli.specs.Config.{status_of_config};
+
+    ghost from_gives = { λ fault status. status ≡ status_of_config fault };
+
+    fn from(fault: ConfigFault) -> Self {
+        match fault {
+            ConfigFault::Read => Status::ReadFault,
+            ConfigFault::Long => Status::ConfigLong,
+            ConfigFault::Refused { number } => Status::ConfigRegistry { number },
+            ConfigFault::Memory => Status::Memory,
+        }
+    }
+}
+
+fn command_of(words: &[String]) -> Option<Command>
+    ensures { result ≡ command_of words.now }
 {
     match words {
-        [word] => word.as_str() == "replay",
-        _ => false,
+        [word] if word.as_str() == "replay" => Some(Command::Replay),
+        [word, option] if word.as_str() == "replay" && option.as_str() == "--registry" => {
+            Some(Command::ReplayRegistry)
+        }
+        _ => None,
     }
 }
 
@@ -72,39 +104,68 @@ fn finish<W: Sink>(alloc: Global, status: Status, out: &mut W) -> Status
     }
 }
 
-/// Runs the command that the words say, and answers how it ended; [`Status::code`] is the exit code.
-///
-/// The one command is `replay`: each line of the script that is not empty is answered by one line,
-/// the reply that is due to its request in the claim map after the earlier lines, or the fault that
-/// the line has. Whatever ends a run before the end of its script is named by the last line of the
-/// report, but a fault of the sink, which leaves a front of the report.
-pub fn run<B: Source, W: Sink>(
+// The run of a service that has begun.
+fn serve<B: Source, W: Sink>(
     alloc: Global,
-    words: &[String],
+    mut service: Service,
     script: &mut B,
     out: &mut W,
 ) -> Status
-    // what was written: the answers to all lines, or to some first ones, and the last line
-    ensures end { IsTrue B.tells → IsTrue W.tells → result ≡ Status.End → W.written out.new ≡ W.written out.old ++ replies_to (lines_of (B.left script.old)) }
-    ensures script { IsTrue B.tells → IsTrue W.tells → (k : ℕ) → result ≡ Status.Script k → W.written out.new ≡ W.written out.old ++ (replies_to (take (k - 1) (lines_of (B.left script.old))) ++ last_line (Status.Script k)) }
-    ensures read { IsTrue B.tells → IsTrue W.tells → result ≡ Status.ReadFault → (n : ℕ) × (W.written out.new ≡ W.written out.old ++ (replies_to (take n (lines_of (B.left script.old))) ++ last_line Status.ReadFault)) }
-    ensures memory { IsTrue B.tells → IsTrue W.tells → result ≡ Status.Memory → (n : ℕ) × (W.written out.new ≡ W.written out.old ++ (replies_to (take n (lines_of (B.left script.old))) ++ last_line Status.Memory)) }
-    ensures usage { IsTrue W.tells → result ≡ Status.Usage → W.written out.new ≡ W.written out.old ++ last_line Status.Usage }
-    ensures write { IsTrue B.tells → IsTrue W.tells → result ≡ Status.WriteFault → LeavesFront (lines_of (B.left script.old)) (W.written out.old) (W.written out.new) }
-
-    // when each status comes; want of memory is free
+    requires { IsWritable (leases_of (map_of service)) }
+    ensures end { IsTrue B.tells → IsTrue W.tells → result ≡ Status.End → W.written out.new ≡ W.written out.old ++ replies_to (Ok (start_with service)) (lines_of (B.left script.old)) }
+    ensures script { IsTrue B.tells → IsTrue W.tells → (k : ℕ) → result ≡ Status.Script k → W.written out.new ≡ W.written out.old ++ (replies_to (Ok (start_with service)) (take (k - 1) (lines_of (B.left script.old))) ++ last_line (Status.Script k)) }
+    ensures read { IsTrue B.tells → IsTrue W.tells → result ≡ Status.ReadFault → (n : ℕ) × (W.written out.new ≡ W.written out.old ++ (replies_to (Ok (start_with service)) (take n (lines_of (B.left script.old))) ++ last_line Status.ReadFault)) }
+    ensures memory { IsTrue B.tells → IsTrue W.tells → result ≡ Status.Memory → (n : ℕ) × (W.written out.new ≡ W.written out.old ++ (replies_to (Ok (start_with service)) (take n (lines_of (B.left script.old))) ++ last_line Status.Memory)) }
+    ensures write { IsTrue B.tells → IsTrue W.tells → result ≡ Status.WriteFault → LeavesFront (Ok (start_with service)) (lines_of (B.left script.old)) (W.written out.old) (W.written out.new) }
     ensures end_cause { IsTrue B.tells → result ≡ Status.End → (B.left script.new ≡ []) × (first_refused BODY 0 (lines_of (B.left script.old)) ≡ None) }
     ensures script_cause { IsTrue B.tells → (k : ℕ) → result ≡ Status.Script k → first_refused BODY 0 (lines_of (B.left script.old)) ≡ Some k }
     ensures read_cause { result ≡ Status.ReadFault → Rose (B.faults script.old) (B.faults script.new) }
     ensures write_cause { result ≡ Status.WriteFault → Rose (W.faults out.old) (W.faults out.new) }
-    ensures statuses { EndsReplay (are_replay words.now) result }
+    ensures statuses { EndsService result }
 {
-    if !are_replay(words) {
-        return finish(alloc, Status::Usage, out);
-    }
-    match replay(alloc, script, out) {
+    match replay(alloc, &mut service, script, out) {
         Ok(()) => Status::End,
         Err(Stop::WriteFault) => Status::WriteFault,
         Err(stop) => finish(alloc, Status::from(stop), out),
+    }
+}
+
+/// Runs the command that the words say, and answers how it ended; [`Status::code`] is the exit code.
+///
+/// `replay` answers each line of the script that is not empty by one line: the reply that is due to
+/// its request in the claim map after the earlier lines, or the fault that the line has. It knows one
+/// cell; `replay --registry` reads the cells of the configuration first. Whatever ends a run before
+/// the end of its script is named by the last line of the report, but a fault of the sink, which
+/// leaves a front of the report.
+pub fn run<A: Source, B: Source, W: Sink>(
+    alloc: Global,
+    words: &[String],
+    config: &mut A,
+    script: &mut B,
+    out: &mut W,
+) -> Status
+    // what was written: the answers to all lines, or to some first ones, and the last line
+    ensures end { IsTrue A.tells → IsTrue B.tells → IsTrue W.tells → result ≡ Status.End → W.written out.new ≡ W.written out.old ++ replies_to (begins (command_of words.now) (A.left config.old)) (lines_of (B.left script.old)) }
+    ensures script { IsTrue A.tells → IsTrue B.tells → IsTrue W.tells → (k : ℕ) → result ≡ Status.Script k → W.written out.new ≡ W.written out.old ++ (replies_to (begins (command_of words.now) (A.left config.old)) (take (k - 1) (lines_of (B.left script.old))) ++ last_line (Status.Script k)) }
+    ensures read { IsTrue A.tells → IsTrue B.tells → IsTrue W.tells → result ≡ Status.ReadFault → (n : ℕ) × (W.written out.new ≡ W.written out.old ++ (replies_to (begins (command_of words.now) (A.left config.old)) (take n (lines_of (B.left script.old))) ++ last_line Status.ReadFault)) }
+    ensures memory { IsTrue A.tells → IsTrue B.tells → IsTrue W.tells → result ≡ Status.Memory → (n : ℕ) × (W.written out.new ≡ W.written out.old ++ (replies_to (begins (command_of words.now) (A.left config.old)) (take n (lines_of (B.left script.old))) ++ last_line Status.Memory)) }
+    ensures refused { IsTrue W.tells → IsRefused result → W.written out.new ≡ W.written out.old ++ last_line result }
+    ensures write { IsTrue A.tells → IsTrue B.tells → IsTrue W.tells → result ≡ Status.WriteFault → LeavesFront (begins (command_of words.now) (A.left config.old)) (lines_of (B.left script.old)) (W.written out.old) (W.written out.new) }
+
+    // when each status comes; want of memory is free
+    ensures end_cause { IsTrue B.tells → result ≡ Status.End → (B.left script.new ≡ []) × (first_refused BODY 0 (lines_of (B.left script.old)) ≡ None) }
+    ensures script_cause { IsTrue B.tells → (k : ℕ) → result ≡ Status.Script k → first_refused BODY 0 (lines_of (B.left script.old)) ≡ Some k }
+    ensures begun_cause { IsTrue A.tells → (result ≡ Status.End) ⊎ ((k : ℕ) × (result ≡ Status.Script k)) → IsOk (begins (command_of words.now) (A.left config.old)) }
+    ensures refused_cause { IsTrue A.tells → IsRefused result → begins (command_of words.now) (A.left config.old) ≡ Err result }
+    ensures read_cause { result ≡ Status.ReadFault → (reads_config (command_of words.now) × Rose (A.faults config.old) (A.faults config.new)) ⊎ Rose (B.faults script.old) (B.faults script.new) }
+    ensures write_cause { result ≡ Status.WriteFault → Rose (W.faults out.old) (W.faults out.new) }
+    ensures statuses { Ends (command_of words.now) result }
+{
+    let Some(command) = command_of(words) else {
+        return finish(alloc, Status::Usage, out);
+    };
+    match service_for(alloc, command, config) {
+        Ok(service) => serve(alloc, service, script, out),
+        Err(fault) => finish(alloc, Status::from(fault), out),
     }
 }

@@ -14,6 +14,7 @@
 #![tactic(auto)]
 
 mod command;
+mod config;
 mod lines;
 mod replay;
 mod service;
@@ -21,7 +22,8 @@ mod status;
 #[cfg(test)]
 mod tests;
 
-pub use command::run;
+pub use command::{Command, run};
+pub use config::{CONFIG_BYTES, ConfigFault};
 pub use lines::{LINES, LONGEST_LINE_BYTES, LineFault, LineReader};
 pub use service::Service;
 pub use status::Status;

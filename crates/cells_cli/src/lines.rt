@@ -96,7 +96,7 @@ fn move_down(buffer: &mut [u8], span: Span) -> Span
 }
 
 // Reads once into the room behind the front of the buffer, and answers the longer front.
-fn read_behind<S: Source>(
+pub fn read_behind<S: Source>(
     buffer: &mut [u8],
     end: usize,
     source: &mut S,

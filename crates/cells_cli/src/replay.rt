@@ -2,12 +2,13 @@
 ghost use Rattle.std.specs.Prelude.{◌≡◌, ◌≢◌, ◌+◌, ◌≤◌, ◌<◌, ◌++◌, [], ◌∷◌, ℕ, List, None, Some, IsTrue, true, IfOk, OnOk, OnErr, IsErrOf, Ok, Err, length};
 ghost use Rattle.cells_base.specs.Causes.{Rose};
 ghost use Rattle.cells_edge.specs.Edge.{IsPrefix};
+ghost use Rattle.message_json.specs.Bounds.{IsRequest};
 ghost use Rattle.message_json.specs.Requests.{request_of};
 ghost use Rattle.claim_map.specs.State.{leases_of};
 ghost use Rattle.claim_map.specs.Writable.{IsWritable};
 ghost use Rattle.claim_types.specs.Writable.{IsWritableRequest};
 ghost use Rattle.cells_cli.specs.Lines.{lines_of, first_refused};
-ghost use Rattle.cells_cli.specs.Service.{map_of, plain_opening, plain_registry};
+ghost use Rattle.cells_cli.specs.Service.{map_of};
 ghost use Rattle.cells_cli.specs.Replay.{answer_to, map_after, line_answer, after_line, IsAnswered};
 ghost use Rattle.cells_cli.specs.declared.replay.Stop.TheVariants.{Memory, WriteFault};
 
@@ -70,9 +71,11 @@ impl From<LineFault> for Stop {
 fn reply_body(alloc: Global, service: &mut Service, request: Request) -> Result<Text, NoMemory>
     requires map { IsWritable (leases_of (map_of service.old)) }
     requires request { IsWritableRequest request }
-    ensures body { IfOk result (λ body. body ≡ answer_to plain_registry (map_of service.old) (Ok request)) }
-    ensures map { OnOk result (map_of service.new ≡ map_after plain_registry (map_of service.old) (Ok request)) }
+    requires bounds { IsRequest request }
+    ensures body { IfOk result (λ body. body ≡ answer_to service.old.registry (map_of service.old) (Ok request)) }
+    ensures map { OnOk result (map_of service.new ≡ map_after service.old.registry (map_of service.old) (Ok request)) }
     ensures writable { OnOk result (IsWritable (leases_of (map_of service.new))) }
+    ensures registry { service.new.registry ≡ service.old.registry }
 {
     let reply = service.answer(alloc, request)?;
     let body = write_reply(alloc, &reply)?;
@@ -82,9 +85,10 @@ fn reply_body(alloc: Global, service: &mut Service, request: Request) -> Result<
 // The body that answers a line.
 fn answer_body(alloc: Global, service: &mut Service, line: &[u8]) -> Result<Text, NoMemory>
     requires { IsWritable (leases_of (map_of service.old)) }
-    ensures body { IfOk result (λ body. body ≡ answer_to plain_registry (map_of service.old) (request_of line.now)) }
-    ensures map { OnOk result (map_of service.new ≡ map_after plain_registry (map_of service.old) (request_of line.now)) }
+    ensures body { IfOk result (λ body. body ≡ answer_to service.old.registry (map_of service.old) (request_of line.now)) }
+    ensures map { OnOk result (map_of service.new ≡ map_after service.old.registry (map_of service.old) (request_of line.now)) }
     ensures writable { OnOk result (IsWritable (leases_of (map_of service.new))) }
+    ensures registry { service.new.registry ≡ service.old.registry }
 {
     match read_request(alloc, line) {
         Ok(request) => reply_body(alloc, service, request),
@@ -96,9 +100,10 @@ fn answer_body(alloc: Global, service: &mut Service, line: &[u8]) -> Result<Text
 // What is written for a line: nothing for an empty one, and else the body and LF.
 fn line_body(alloc: Global, service: &mut Service, line: &[u8]) -> Result<Vec<u8>, NoMemory>
     requires { IsWritable (leases_of (map_of service.old)) }
-    ensures body { IfOk result (λ body. body.items ≡ line_answer plain_registry (map_of service.old) line.now) }
-    ensures map { OnOk result (map_of service.new ≡ after_line plain_registry (map_of service.old) line.now) }
+    ensures body { IfOk result (λ body. body.items ≡ line_answer service.old.registry (map_of service.old) line.now) }
+    ensures map { OnOk result (map_of service.new ≡ after_line service.old.registry (map_of service.old) line.now) }
     ensures writable { OnOk result (IsWritable (leases_of (map_of service.new))) }
+    ensures registry { service.new.registry ≡ service.old.registry }
 {
     if line.is_empty() {
         return Ok(Vec::new(alloc));
@@ -116,11 +121,12 @@ fn answer_line<W: Sink>(
     out: &mut W,
 ) -> Result<(), Stop>
     requires { IsWritable (leases_of (map_of service.old)) }
-    ensures told { IsTrue W.tells → OnOk result (W.written out.new ≡ W.written out.old ++ line_answer plain_registry (map_of service.old) line.now) }
-    ensures map { OnOk result (map_of service.new ≡ after_line plain_registry (map_of service.old) line.now) }
+    ensures told { IsTrue W.tells → OnOk result (W.written out.new ≡ W.written out.old ++ line_answer service.old.registry (map_of service.old) line.now) }
+    ensures map { OnOk result (map_of service.new ≡ after_line service.old.registry (map_of service.old) line.now) }
     ensures writable { OnOk result (IsWritable (leases_of (map_of service.new))) }
+    ensures registry { service.new.registry ≡ service.old.registry }
     ensures nothing { IsTrue W.tells → result ≡ Err Stop.Memory → W.written out.new ≡ W.written out.old }
-    ensures part { IsTrue W.tells → result ≡ Err Stop.WriteFault → (front : List ℕ) × IsPrefix front (line_answer plain_registry (map_of service.old) line.now) × (W.written out.new ≡ W.written out.old ++ front) }
+    ensures part { IsTrue W.tells → result ≡ Err Stop.WriteFault → (front : List ℕ) × IsPrefix front (line_answer service.old.registry (map_of service.old) line.now) × (W.written out.new ≡ W.written out.old ++ front) }
     ensures cause { result ≡ Err Stop.WriteFault → Rose (W.faults out.old) (W.faults out.new) }
     ensures later { W.faults out.old ≤ W.faults out.new }
     ensures others { (result ≢ Err Stop.ReadFault) × ((k : ℕ) → result ≢ Err (Stop.Script k)) }
@@ -140,7 +146,7 @@ fn answer_lines<S: Source, W: Sink>(
 ) -> Result<(), Stop>
     requires writable { IsWritable (leases_of (map_of service.old)) }
     requires fresh { (reader.old.given ≡ 0) × (reader.old.pending ≡ []) }
-    ensures told { IsTrue S.tells → IsTrue W.tells → IsAnswered plain_registry (map_of service.old) (lines_of (S.left script.old)) result (W.written out.old) (W.written out.new) }
+    ensures told { IsTrue S.tells → IsTrue W.tells → IsAnswered service.old.registry (map_of service.old) (lines_of (S.left script.old)) result (W.written out.old) (W.written out.new) }
     ensures whole { IsTrue S.tells → OnOk result ((S.left script.new ≡ []) × (first_refused reader.old.limit 0 (lines_of (S.left script.old)) ≡ None)) }
     ensures script { IsTrue S.tells → (k : ℕ) → result ≡ Err (Stop.Script k) → first_refused reader.old.limit 0 (lines_of (S.left script.old)) ≡ Some k }
     ensures read { result ≡ Err Stop.ReadFault → Rose (S.faults script.old) (S.faults script.new) }
@@ -153,17 +159,21 @@ fn answer_lines<S: Source, W: Sink>(
     Ok(())
 }
 
-/// Answers the lines of the script as the command `replay` without words does, and says why it
-/// ended before the script's end, if it did.
-pub fn replay<S: Source, W: Sink>(alloc: Global, script: &mut S, out: &mut W) -> Result<(), Stop>
-    ensures told { IsTrue S.tells → IsTrue W.tells → IsAnswered plain_registry plain_opening (lines_of (S.left script.old)) result (W.written out.old) (W.written out.new) }
+/// Answers the lines of the script, and says why it ended before the script's end, if it did.
+pub fn replay<S: Source, W: Sink>(
+    alloc: Global,
+    service: &mut Service,
+    script: &mut S,
+    out: &mut W,
+) -> Result<(), Stop>
+    requires { IsWritable (leases_of (map_of service.old)) }
+    ensures told { IsTrue S.tells → IsTrue W.tells → IsAnswered service.old.registry (map_of service.old) (lines_of (S.left script.old)) result (W.written out.old) (W.written out.new) }
     ensures whole { IsTrue S.tells → OnOk result ((S.left script.new ≡ []) × (first_refused BODY 0 (lines_of (S.left script.old)) ≡ None)) }
     ensures script { IsTrue S.tells → (k : ℕ) → result ≡ Err (Stop.Script k) → first_refused BODY 0 (lines_of (S.left script.old)) ≡ Some k }
     ensures read { result ≡ Err Stop.ReadFault → Rose (S.faults script.old) (S.faults script.new) }
     ensures write { result ≡ Err Stop.WriteFault → Rose (W.faults out.old) (W.faults out.new) }
     ensures later { W.faults out.old ≤ W.faults out.new }
 {
-    let mut service = Service::plain(alloc)?;
     let mut reader = LineReader::new(alloc, BODY as usize)?;
-    answer_lines(alloc, &mut service, &mut reader, script, out)
+    answer_lines(alloc, service, &mut reader, script, out)
 }

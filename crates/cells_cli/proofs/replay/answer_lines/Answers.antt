@@ -1,12 +1,17 @@
-use Rattle.std.proofs.Common.{◌≡◌, ◌+◌, IsTrue, List, ℕ, ◌∷◌, ◌++◌, drop, sym, ◌∙◌, ap, arith}
+use Rattle.std.proofs.Common.{◌≡◌, ◌+◌, IsTrue, List, ℕ, ◌∷◌, ◌++◌, drop, sym, ◌∙◌, ap, subst, arith}
+use Rattle.cells_edge.specs.Edge.{IsPrefix}
+use Rattle.claim_map.specs.Registry.{Registry}
+use Rattle.cells_cli.specs.Replay.{line_answer, after_line}
 use Rattle.std.proofs.lemmas.Result.{err_from_is_err_and}
 use Rattle.cells_cli.specs.Lines.{lines_of, first_refused}
-use Rattle.cells_cli.specs.Service.{map_of, plain_registry}
+use Rattle.cells_cli.specs.Service.{map_of}
 use Rattle.cells_cli.proofs.Answered.{dropped, map_more, done_more, stopped, all_done, next_is, counted_is}
 use Rattle.cells_cli.proofs.replay.answer_lines.Goals as goal
 
 pub loop-service-preserved : goal.loop-service-preserved
 loop-service-preserved g c =
+    let registry = c.args.service.now.registry in
+    let same = c.loop-service.invariant.registry in
     let start = map_of c.args.service.now in
     let lines = lines_of (g.S.Source.left c.args.script.now) in
     let n = c.loop-service.reader.given in
@@ -15,9 +20,10 @@ loop-service-preserved g c =
     let counted = counted_is c.in_ok-next.field-0 c.next.new.self.given n c.if-branch.true c.in_ok-next.ensures.counted in
     let ahead = λ (s : IsTrue g.S.Source.tells). sym (c.loop-service.invariant.ahead s) ∙ next_is c.in_ok-next.field-0 _ _ _ c.if-branch.true (c.in_ok-next.ensures.next s) ∙ ap (λ (l : List ℕ). l ∷ rest) (sym c.line.ensures) in
     record {
-      done = λ s w. done_more plain_registry start lines n line rest (ahead s) c.next.new.self.given counted (map_of c.loop-service.service) (c.loop-service.invariant.map s) (g.W.Sink.written c.args.out.now) (g.W.Sink.written c.loop-service.out) (c.loop-service.invariant.done s w) (g.W.Sink.written c.answer_line.new.out) (c.in_ok-answer_line.ensures.told w);
-      map = λ s. map_more plain_registry start lines n line rest (ahead s) c.next.new.self.given counted (map_of c.loop-service.service) (c.loop-service.invariant.map s) (map_of c.answer_line.new.service) c.in_ok-answer_line.ensures.map;
-      ahead = λ s. dropped plain_registry start lines n line rest (ahead s) c.next.new.self.given counted;
+      done = λ s w. done_more registry start lines n line rest (ahead s) c.next.new.self.given counted (map_of c.loop-service.service) (c.loop-service.invariant.map s) (g.W.Sink.written c.args.out.now) (g.W.Sink.written c.loop-service.out) (c.loop-service.invariant.done s w) (g.W.Sink.written c.answer_line.new.out) (c.in_ok-answer_line.ensures.told w ∙ ap (λ (r : Registry). g.W.Sink.written c.loop-service.out ++ line_answer r (map_of c.loop-service.service) line) same);
+      map = λ s. map_more registry start lines n line rest (ahead s) c.next.new.self.given counted (map_of c.loop-service.service) (c.loop-service.invariant.map s) (map_of c.answer_line.new.service) (c.in_ok-answer_line.ensures.map ∙ ap (λ (r : Registry). after_line r (map_of c.loop-service.service) line) same);
+      registry = c.in_ok-answer_line.ensures.registry ∙ same;
+      ahead = λ s. dropped registry start lines n line rest (ahead s) c.next.new.self.given counted;
       refused = λ s. sym (c.in_ok-next.ensures.passed s) ∙ c.loop-service.invariant.refused s;
       writable = c.in_ok-answer_line.ensures.writable;
       read = omega (arith, c.in_ok-next.ensures.later, c.loop-service.invariant.read);
@@ -26,11 +32,13 @@ loop-service-preserved g c =
 
 pub returns-clause-told : goal.returns-clause-told
 returns-clause-told g c s w =
-    all_done plain_registry (map_of c.args.service.now) (lines_of (g.S.Source.left c.args.script.now)) c.loop-service.reader.given _ _ (sym (c.loop-service.invariant.ahead s) ∙ (c.in_ok-next.ensures.end s c.if-branch.false).0) (c.loop-service.invariant.done s w)
+    all_done c.args.service.now.registry (map_of c.args.service.now) (lines_of (g.S.Source.left c.args.script.now)) c.loop-service.reader.given _ _ (sym (c.loop-service.invariant.ahead s) ∙ (c.in_ok-next.ensures.end s c.if-branch.false).0) (c.loop-service.invariant.done s w)
 
 pub returns-in_err-answer_line-clause-told : goal.returns-in_err-answer_line-clause-told
 returns-in_err-answer_line-clause-told g c s w =
     let p = err_from_is_err_and c.from_residual-in_err-answer_line.result c.from_residual-in_err-answer_line.ensures.1 in
+    let registry = c.args.service.now.registry in
+    let same = c.loop-service.invariant.registry in
     let start = map_of c.args.service.now in
     let lines = lines_of (g.S.Source.left c.args.script.now) in
     let n = c.loop-service.reader.given in
@@ -38,5 +46,5 @@ returns-in_err-answer_line-clause-told g c s w =
     let rest = lines_of (c.next.new.self.pending ++ g.S.Source.left c.next.new.source) in
     let counted = counted_is c.in_ok-next.field-0 c.next.new.self.given n c.if-branch.true c.in_ok-next.ensures.counted in
     let ahead = sym (c.loop-service.invariant.ahead s) ∙ next_is c.in_ok-next.field-0 _ _ _ c.if-branch.true (c.in_ok-next.ensures.next s) ∙ ap (λ (l : List ℕ). l ∷ rest) (sym c.line.ensures) in
-    rw (p.1, p.2) (stopped plain_registry start lines n line rest ahead c.next.new.self.given counted (map_of c.loop-service.service) (c.loop-service.invariant.map s) (g.W.Sink.written c.args.out.now) (g.W.Sink.written c.loop-service.out) (c.loop-service.invariant.done s w) (g.W.Sink.written c.answer_line.new.out)
-    c.in_err-answer_line.field-0.0 c.answer_line.result c.in_err-answer_line.was c.answer_line.ensures.others (c.answer_line.ensures.nothing w) (c.answer_line.ensures.part w))
+    rw (p.1, p.2) (stopped registry start lines n line rest ahead c.next.new.self.given counted (map_of c.loop-service.service) (c.loop-service.invariant.map s) (g.W.Sink.written c.args.out.now) (g.W.Sink.written c.loop-service.out) (c.loop-service.invariant.done s w) (g.W.Sink.written c.answer_line.new.out)
+    c.in_err-answer_line.field-0.0 c.answer_line.result c.in_err-answer_line.was c.answer_line.ensures.others (c.answer_line.ensures.nothing w) (λ is. subst (λ (r : Registry). (front : List ℕ) × IsPrefix front (line_answer r (map_of c.loop-service.service) line) × (g.W.Sink.written c.answer_line.new.out ≡ g.W.Sink.written c.loop-service.out ++ front)) same (c.answer_line.ensures.part w is)))

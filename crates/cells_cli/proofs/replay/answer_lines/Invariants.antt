@@ -2,17 +2,18 @@ use Rattle.std.proofs.Common.{◌≡◌, ◌≤◌, ◌++◌, ◌-◌, IsTrue, t
 use Rattle.claim_map.specs.State.{leases_of}
 use Rattle.claim_map.specs.Writable.{IsWritable}
 use Rattle.cells_cli.specs.Lines.{lines_of, first_refused}
-use Rattle.cells_cli.specs.Service.{map_of, plain_registry}
+use Rattle.cells_cli.specs.Service.{map_of}
 use Rattle.cells_cli.specs.Replay.{answers, after_lines}
 use Rattle.cells_cli.proofs.replay.answer_lines.Given as goal
 
 abbrev pub invariant-loop-service : goal.invariant-loop-service
 invariant-loop-service g l =
     let lines = lines_of (g.S.Source.left l.fn.script) in record {
-      done : IsTrue g.S.Source.tells → IsTrue g.W.Sink.tells → g.W.Sink.written l.out ≡ g.W.Sink.written l.fn.out ++ answers plain_registry (map_of l.fn.service) (take l.reader.given lines);
-      map : IsTrue g.S.Source.tells → map_of l.service ≡ after_lines plain_registry (map_of l.fn.service) (take l.reader.given lines);
+      done : IsTrue g.S.Source.tells → IsTrue g.W.Sink.tells → g.W.Sink.written l.out ≡ g.W.Sink.written l.fn.out ++ answers l.fn.service.registry (map_of l.fn.service) (take l.reader.given lines);
+      map : IsTrue g.S.Source.tells → map_of l.service ≡ after_lines l.fn.service.registry (map_of l.fn.service) (take l.reader.given lines);
       ahead : IsTrue g.S.Source.tells → lines_of (l.reader.pending ++ g.S.Source.left l.script) ≡ drop l.reader.given lines;
       refused : IsTrue g.S.Source.tells → first_refused l.reader.limit l.reader.given (lines_of (l.reader.pending ++ g.S.Source.left l.script)) ≡ first_refused l.fn.reader.limit 0 lines;
+      registry : l.service.registry ≡ l.fn.service.registry;
       writable : IsWritable (leases_of (map_of l.service));
       read : g.S.Source.faults l.fn.script ≤ g.S.Source.faults l.script;
       write : g.W.Sink.faults l.fn.out ≤ g.W.Sink.faults l.out;

@@ -2,11 +2,15 @@
 #![tactic(auto)]
 
 use cells_cli::run;
-use cells_edge::real::{StdSink, StdSource};
+use cells_edge::real::{FileSource, StdSink, StdSource};
 use std::env;
 use std::process::ExitCode;
 
+/// The configuration, in the current folder.
+const CONFIG: &str = "cells.toml";
+
 fn main(rt: HostRuntime) -> ExitCode {
+    let mut config = FileSource::new(&rt, CONFIG);
     let mut script = StdSource::new(rt.stdin());
     let mut out = StdSink::new(rt.stdout());
     let Ok(words) = env::args(&rt) else {
@@ -15,5 +19,6 @@ fn main(rt: HostRuntime) -> ExitCode {
     let Ok(words) = words.skip(1).collect::<Vec<String>>(rt.alloc()) else {
         return ExitCode::from(7);
     };
-    ExitCode::from(run(rt.alloc(), &words, &mut script, &mut out).code())
+    let status = run(rt.alloc(), &words, &mut config, &mut script, &mut out);
+    ExitCode::from(status.code())
 }

@@ -1,9 +1,12 @@
 //! Standard readers and writers as a source and a sink. They do not tell their bytes: nothing is
 //! promised of the outside world but that a fault is counted.
 ghost use Rattle.std.specs.Prelude.{◌≡◌, false, []};
+ghost use Rattle.std.specs.Io.{ReadsAtMost};
 
 use crate::{Sink, SinkFailed, Source, SourceFailed};
-use std::io::{Read, Write};
+use std::fs::OpenOptions;
+use std::io::{self, ErrorKind, Read, Write};
+use std::rt::Files;
 
 /// Any reader of std.
 #[derive(Drop)]
@@ -30,6 +33,60 @@ impl<R: Read> Source for StdSource<R> {
 
     fn read(&mut self, buf: &mut [u8]) -> Result<usize, SourceFailed> {
         match self.inner.read(buf) {
+            Ok(count) => Ok(count),
+            Err(_) => {
+                self.faults = self.faults.saturating_add(1);
+                Err(SourceFailed)
+            }
+        }
+    }
+}
+
+/// A file that is opened by its path at the first read. Where it cannot be opened, since it is missing
+/// or otherwise, that is a fault of the read.
+#[derive(Drop)]
+pub struct FileSource<'a, R: Files> {
+    rt: &'a R,
+    path: &'a str,
+    file: Option<R::File>,
+    faults: u64,
+}
+
+impl<'a, R: Files> FileSource<'a, R> {
+    pub fn new(rt: &'a R, path: &'a str) -> Self
+        ensures { result.faults ≡ 0 }
+    {
+        FileSource {
+            rt,
+            path,
+            file: None,
+            faults: 0,
+        }
+    }
+
+    fn read_file(&mut self, buf: &mut [u8]) -> io::Result<usize>
+        ensures bound { ReadsAtMost result buf.new }
+        ensures faults { self.new.faults ≡ self.old.faults }
+    {
+        if self.file.is_none() {
+            self.file = Some(OpenOptions::new().read(true).open(self.rt, self.path)?);
+        }
+        match &mut self.file {
+            Some(file) => file.read(buf),
+            None => Err(io::Error::from(ErrorKind::NotFound)),
+        }
+    }
+}
+
+impl<'a, R: Files> Source for FileSource<'a, R> {
+    ghost tells = { false };
+
+    ghost left = { λ s. [] };
+
+    ghost faults = { λ s. s.faults };
+
+    fn read(&mut self, buf: &mut [u8]) -> Result<usize, SourceFailed> {
+        match self.read_file(buf) {
             Ok(count) => Ok(count),
             Err(_) => {
                 self.faults = self.faults.saturating_add(1);

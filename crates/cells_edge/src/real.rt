@@ -86,13 +86,11 @@ impl<'a, R: Files> Source for FileSource<'a, R> {
     ghost faults = { λ s. s.faults };
 
     fn read(&mut self, buf: &mut [u8]) -> Result<usize, SourceFailed> {
-        match self.read_file(buf) {
-            Ok(count) => Ok(count),
-            Err(_) => {
-                self.faults = self.faults.saturating_add(1);
-                Err(SourceFailed)
-            }
-        }
+        let Ok(count) = self.read_file(buf) else {
+            self.faults = self.faults.saturating_add(1);
+            return Err(SourceFailed);
+        };
+        Ok(count)
     }
 }
 

@@ -1,3 +1,11 @@
 mod Absent
-mod Counted
+pub mod Each
 mod Utf8
+pub mod Keys
+pub mod Parts
+pub mod Written
+pub mod MemberLaws
+pub mod RequestLaws
+pub mod ReadBack
+pub mod Writable
+pub mod ReplyLaws

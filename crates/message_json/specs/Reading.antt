@@ -1,7 +1,7 @@
 -- How the members of a body are read: one after the other, up to the first fault.
-use Rattle.std.specs.Prelude.{◌≡◌, ℕ, Bool, ◌||◌, nat_lt, if◌then◌else◌, List, [], ◌∷◌, ◌++◌, Option, Some, None, option_and_then, Result, Ok, Err}
-use Rattle.serde_json.specs.Data.{Data, Num, Items, Members}
-use Rattle.serde_json.specs.Find.{get, as_number, as_u64, as_str, as_array, as_object}
+use Rattle.std.specs.Prelude.{◌≡◌, ℕ, ◌-◌, ◌^◌, Bool, ◌||◌, nat_lt, if◌then◌else◌, List, [], ◌∷◌, ◌++◌, Option, Some, None, option_and_then, Result, Ok, Err}
+use Rattle.serde_json.specs.Data.{Data, null, boolean, number, string, array, object, Items, no_items, item}
+use Rattle.serde_json.specs.Find.{get, as_bool, as_number, as_u64, as_str, as_array}
 use denote.Ref.{Bor}
 use Rattle.serde_json.specs.View.{view, items_view}
 use Rattle.serde_json.specs.declared.value.Value.{Value}
@@ -15,8 +15,10 @@ use Rattle.claim_types.specs.declared.key.ClaimKey.{ClaimKey}
 use Rattle.claim_types.specs.declared.key.KeyFault.{KeyFault}
 use Rattle.claim_types.specs.declared.key.Bucket.{Bucket}
 use Rattle.claim_types.specs.declared.record.Kind.{Kind}
+use Rattle.claim_types.specs.declared.page.ClaimItem.{ClaimItem}
+use Rattle.claim_types.specs.declared.limits.TheConstants.{GREATEST_IDENTIFIER, GREATEST_CELL}
 use Rattle.message_json.specs.declared.member.Member.{Member}
-use Rattle.message_json.specs.declared.member.Member.TheVariants.{Bucket as BucketMember, Value as ValueMember, Subject as SubjectMember, Table as TableMember}
+use Rattle.message_json.specs.declared.member.Member.TheVariants.{Bucket as BucketMember, Value as ValueMember, Subject as SubjectMember, Table as TableMember, SubjectId, Row, After}
 use Rattle.message_json.specs.declared.fault.BodyFault.{BodyFault}
 use Rattle.message_json.specs.declared.fault.BodyFault.TheVariants.{NotJson, Missing, WrongKind, BadValue, Memory}
 use Rattle.message_json.specs.Members.{member_text}
@@ -53,11 +55,11 @@ in_bounds which None = Err (BadValue which)
 in_bounds which (Some x) = Ok x
 
 -- a member of an object
-abbrev pub member_of : Member → Data → Result Data BodyFault
+unfoldable pub member_of : Member → Data → Result Data BodyFault
 member_of which body = present which (get (member_text which) body)
 
 -- a text
-abbrev pub text_member : Member → Data → Result (List ℕ) BodyFault
+unfoldable pub text_member : Member → Data → Result (List ℕ) BodyFault
 text_member which body = member_of which body >>= λ d. of_kind which (as_str d)
 
 -- a whole number from low to high
@@ -65,22 +67,55 @@ abbrev pub between : ℕ → ℕ → Option ℕ → Option ℕ
 between low high None = None
 between low high (Some n) = if nat_lt n low || nat_lt high n then None else Some n
 
-abbrev pub number_member : Member → ℕ → ℕ → Data → Result ℕ BodyFault
+unfoldable pub number_member : Member → ℕ → ℕ → Data → Result ℕ BodyFault
 number_member which low high body = member_of which body >>= λ d. of_kind which (as_number d) >>= λ n. in_bounds which (between low high (as_u64 n))
 
+-- the greatest number of 64 bits
+abbrev pub greatest_number : ℕ
+greatest_number = 2 ^ 64 - 1
+
+-- a cell's number
+abbrev pub cell_named : Member → Data → Result ℕ BodyFault
+cell_named which body = number_member which 1 GREATEST_CELL body
+
+-- true or false
+unfoldable pub flag_member : Member → Data → Result Bool BodyFault
+flag_member which body = member_of which body >>= λ d. of_kind which (as_bool d)
+
 -- an array
-abbrev pub array_member : Member → Data → Result Items BodyFault
+unfoldable pub array_member : Member → Data → Result Items BodyFault
 array_member which body = member_of which body >>= λ d. of_kind which (as_array d)
 
+-- each element in turn, up to the first fault
+abbrev pub each : {A : Type 0} → (Data → Result A BodyFault) → Items → Result (List A) BodyFault
+each rule no_items = Ok []
+each rule (item d ds) = rule d >>= λ x. each rule ds >>= λ xs. Ok (x ∷ xs)
+
 -- the lease that a text names: every form of a UUID's text is taken
-abbrev pub lease_named : List ℕ → Option LeaseId
+unfoldable pub lease_named : List ℕ → Option LeaseId
 lease_named text = option_and_then lease_in (parsed text)
 
-abbrev pub lease_member : Member → Data → Result LeaseId BodyFault
+unfoldable pub lease_member : Member → Data → Result LeaseId BodyFault
 lease_member which body = text_member which body >>= λ text. in_bounds which (lease_named text)
 
+-- a lease, or null where there is none
+abbrev pub some_lease : Option LeaseId → Option (Option LeaseId)
+some_lease None = None
+some_lease (Some lease) = Some (Some lease)
+
+abbrev pub lease_or_null : Member → Data → Result (Option LeaseId) BodyFault
+lease_or_null which null = Ok None
+lease_or_null which (boolean b) = Err (WrongKind which)
+lease_or_null which (number n) = Err (WrongKind which)
+lease_or_null which (string text) = in_bounds which (some_lease (lease_named text))
+lease_or_null which (array ds) = Err (WrongKind which)
+lease_or_null which (object ms) = Err (WrongKind which)
+
+unfoldable pub after_member : Data → Result (Option LeaseId) BodyFault
+after_member body = member_of After body >>= λ d. lease_or_null After d
+
 -- a bucket by its name
-abbrev pub bucket_member : Data → Result Bucket BodyFault
+unfoldable pub bucket_member : Data → Result Bucket BodyFault
 bucket_member body = text_member BucketMember body >>= λ text. in_bounds BucketMember (named_bucket text)
 
 -- a key's value is read by its grammar, and each refusal is a bad value
@@ -88,16 +123,30 @@ abbrev pub key_in : Result ClaimKey KeyFault → Option ClaimKey
 key_in (Ok key) = Some key
 key_in (Err fault) = None
 
-abbrev pub key_member : Bucket → Data → Result ClaimKey BodyFault
+unfoldable pub key_member : Bucket → Data → Result ClaimKey BodyFault
 key_member bucket body = text_member ValueMember body >>= λ text. in_bounds ValueMember (key_in (key_of bucket text))
 
+-- a key has a bucket and a value
+unfoldable pub key_members : Data → Result ClaimKey BodyFault
+key_members body = bucket_member body >>= λ bucket. key_member bucket body
+
 -- the kind of a subject by its name
-abbrev pub subject_kind_member : Data → Result Kind BodyFault
+unfoldable pub subject_kind_member : Data → Result Kind BodyFault
 subject_kind_member body = text_member SubjectMember body >>= λ text. in_bounds SubjectMember (named_subject_kind text)
 
 -- a table by its number
-abbrev pub table_member : Data → Result Kind BodyFault
+unfoldable pub table_member : Data → Result Kind BodyFault
 table_member body = number_member TableMember 1 7 body >>= λ n. in_bounds TableMember (numbered_kind n)
+
+-- a claim of a bucket has these members
+unfoldable pub claim_members : Bucket → Data → Result ClaimItem BodyFault
+claim_members bucket body = do
+  key ← key_member bucket body
+  subject_kind ← subject_kind_member body
+  subject_id ← number_member SubjectId 1 GREATEST_IDENTIFIER body
+  table ← table_member body
+  row ← number_member Row 1 GREATEST_IDENTIFIER body
+  Ok (record { key = key; subject = record { kind = subject_kind; id = subject_id }; origin = record { table = table; row = row } })
 
 -- what a reader that lends a part of the body found
 abbrev pub Finds : Result (Bor Value) BodyFault → Result Data BodyFault → Type 0

@@ -1,101 +1,165 @@
 -- The body of a reply, and of a fault: the compact text of an object, with its members in order of their names.
-use Rattle.std.specs.Prelude.{ℕ, List, codes}
-use Rattle.serde_json.specs.Data.{Data, string, number, object, member, no_members, unsigned}
+use Rattle.std.specs.Prelude.{ℕ, Bool, List, codes, map}
+use Rattle.serde_json.specs.Data.{Data, boolean, string, array, object, Items, member, no_members}
+use Rattle.serde_json.specs.View.{items_of}
 use Rattle.serde_json.specs.Written.{compact_text}
-use Rattle.uuid.specs.Text.{hyphenated_text, lower}
-use Rattle.claim_types.specs.Leases.{lease_bytes}
-use Rattle.claim_types.specs.Names.{bucket_name}
+use Rattle.claim_types.specs.Names.{bucket_name, kind_name}
+use Rattle.claim_types.specs.Order.{kind_number}
 use Rattle.claim_types.specs.declared.lease.LeaseId.{LeaseId}
 use Rattle.claim_types.specs.declared.lease.How.{How}
-use Rattle.claim_types.specs.declared.lease.How.TheVariants.{Committed, RolledBack}
+use Rattle.claim_types.specs.declared.lease.How.TheVariants as how
+use Rattle.claim_types.specs.declared.page.ClaimItem.{ClaimItem}
 use Rattle.claim_types.specs.declared.verdict.Denial.{Denial}
 use Rattle.claim_types.specs.declared.verdict.Denial.TheVariants.{Settled, OtherOperations, NoneOrTooMany, Twice, ForeignId, TooManyOpen, Owned, Leased, NotOwned}
 use Rattle.claim_types.specs.declared.message.BegunResult.{BegunResult}
 use Rattle.claim_types.specs.declared.message.BegunResult.TheVariants.{Good, Denied}
+use Rattle.claim_types.specs.declared.message.CommittedResult.{CommittedResult}
+use Rattle.claim_types.specs.declared.message.CommittedResult.TheVariants as committed
+use Rattle.claim_types.specs.declared.message.RolledBackResult.{RolledBackResult}
+use Rattle.claim_types.specs.declared.message.RolledBackResult.TheVariants as rolled_back
+use Rattle.claim_types.specs.declared.message.RangedResult.{RangedResult}
+use Rattle.claim_types.specs.declared.message.RangedResult.TheVariants as ranged
 use Rattle.claim_types.specs.declared.message.Reply.{Reply}
-use Rattle.claim_types.specs.declared.message.Reply.TheVariants.{Begun}
+use Rattle.claim_types.specs.declared.message.Reply.TheVariants.{Begun, Committed, RolledBack, Leases, Ranged, Claims, NoCell}
 use Rattle.message_json.specs.declared.fault.BodyFault.{BodyFault}
 use Rattle.message_json.specs.declared.fault.BodyFault.TheVariants.{NotJson, Missing, WrongKind, BadValue, Memory}
-use Rattle.message_json.specs.declared.member.Member.{Member}
 use Rattle.message_json.specs.Members.{member_text}
+use Rattle.message_json.specs.Texts.{lease_text, text, count}
 
--- the text of a lease: the lower-case hyphenated form of its UUID
-unfoldable pub lease_text : LeaseId → List ℕ
-lease_text lease = hyphenated_text lower (lease_bytes lease)
-
+-- The words of results.
 abbrev pub how_text : How → List ℕ
-how_text Committed = codes "committed"
-how_text RolledBack = codes "rolled_back"
+how_text how.Committed = codes "committed"
+how_text how.RolledBack = codes "rolled_back"
 
--- Replies to a begin. The first has the result alone.
-abbrev pub plain_data : List ℕ → List ℕ → Data
-plain_data lease result =
-    object (member (codes "lease") (string lease) (member (codes "reply") (string (codes "begun")) (member (codes "result") (string result) no_members)))
+abbrev pub committed_text : CommittedResult → List ℕ
+committed_text committed.Good = codes "ok"
+committed_text committed.Unknown = codes "unknown"
+committed_text committed.WasRolledBack = codes "was_rolled_back"
 
--- how a settled lease ended
+abbrev pub rolled_back_text : RolledBackResult → List ℕ
+rolled_back_text rolled_back.Good = codes "ok"
+rolled_back_text rolled_back.WasCommitted = codes "was_committed"
+
+-- a reply about a lease that has a result alone
+abbrev pub plain_data : List ℕ → List ℕ → List ℕ → Data
+plain_data lease reply result = object (text (codes "lease") lease (text (codes "reply") reply (text (codes "result") result no_members)))
+
+-- Replies to a begin that was refused: how a settled lease ended,
 abbrev pub settled_data : List ℕ → List ℕ → Data
 settled_data lease how =
-    object (member (codes "how") (string how) (member (codes "lease") (string lease) (member (codes "reply") (string (codes "begun")) (member (codes "result") (string (codes "settled")) no_members))))
+    object (text (codes "how") how (text (codes "lease") lease (text (codes "reply") (codes "begun") (text (codes "result") (codes "settled") no_members))))
 
--- the number of operations
+-- the number of operations,
 abbrev pub count_data : List ℕ → ℕ → Data
 count_data lease n =
-    object (member (codes "lease") (string lease) (member (codes "n") (number (unsigned n)) (member (codes "reply") (string (codes "begun")) (member (codes "result") (string (codes "count")) no_members))))
+    object (text (codes "lease") lease (count (codes "n") n (text (codes "reply") (codes "begun") (text (codes "result") (codes "count") no_members))))
 
--- a row that the cell was not given
+-- a row that the cell was not given,
 abbrev pub foreign_data : List ℕ → ℕ → Data
 foreign_data lease id =
-    object (member (codes "id") (number (unsigned id)) (member (codes "lease") (string lease) (member (codes "reply") (string (codes "begun")) (member (codes "result") (string (codes "foreign_id")) no_members))))
+    object (count (codes "id") id (text (codes "lease") lease (text (codes "reply") (codes "begun") (text (codes "result") (codes "foreign_id") no_members))))
 
--- a key
+-- a key,
 abbrev pub keyed_data : List ℕ → List ℕ → List ℕ → List ℕ → Data
 keyed_data lease result bucket value =
-    object (member (codes "bucket") (string bucket) (member (codes "lease") (string lease) (member (codes "reply") (string (codes "begun")) (member (codes "result") (string result) (member (codes "value") (string value) no_members)))))
+    object (text (codes "bucket") bucket (text (codes "lease") lease (text (codes "reply") (codes "begun") (text (codes "result") result (text (codes "value") value no_members)))))
 
--- a key and its owner
+-- a key and its owner,
 abbrev pub owned_data : List ℕ → List ℕ → List ℕ → ℕ → Data
 owned_data lease bucket value owner =
-    object (member (codes "bucket") (string bucket) (member (codes "lease") (string lease) (member (codes "owner") (number (unsigned owner)) (member (codes "reply") (string (codes "begun")) (member (codes "result") (string (codes "owned")) (member (codes "value") (string value) no_members))))))
+    object (text (codes "bucket") bucket (text (codes "lease") lease (count (codes "owner") owner (text (codes "reply") (codes "begun") (text (codes "result") (codes "owned") (text (codes "value") value no_members))))))
 
--- a key and the lease that names it
+-- or a key and the lease that names it
 abbrev pub leased_data : List ℕ → List ℕ → List ℕ → List ℕ → Data
 leased_data lease bucket value by =
-    object (member (codes "bucket") (string bucket) (member (codes "by") (string by) (member (codes "lease") (string lease) (member (codes "reply") (string (codes "begun")) (member (codes "result") (string (codes "leased")) (member (codes "value") (string value) no_members))))))
+    object (text (codes "bucket") bucket (text (codes "by") by (text (codes "lease") lease (text (codes "reply") (codes "begun") (text (codes "result") (codes "leased") (text (codes "value") value no_members))))))
 
--- a reply to a begin that was refused
 abbrev pub denied_data : List ℕ → Denial → Data
 denied_data lease (Settled how) = settled_data lease (how_text how)
-denied_data lease OtherOperations = plain_data lease (codes "other_operations")
+denied_data lease OtherOperations = plain_data lease (codes "begun") (codes "other_operations")
 denied_data lease (NoneOrTooMany n) = count_data lease n
 denied_data lease (Twice key) = keyed_data lease (codes "twice") (bucket_name key.bucket) key.value
 denied_data lease (ForeignId id) = foreign_data lease id
-denied_data lease TooManyOpen = plain_data lease (codes "too_many_open")
+denied_data lease TooManyOpen = plain_data lease (codes "begun") (codes "too_many_open")
 denied_data lease (Owned key cell) = owned_data lease (bucket_name key.bucket) key.value cell
 denied_data lease (Leased key by) = leased_data lease (bucket_name key.bucket) key.value (lease_text by)
 denied_data lease (NotOwned key) = keyed_data lease (codes "not_owned") (bucket_name key.bucket) key.value
 
 abbrev pub begun_data : List ℕ → BegunResult → Data
-begun_data lease Good = plain_data lease (codes "ok")
+begun_data lease Good = plain_data lease (codes "begun") (codes "ok")
 begun_data lease (Denied denial) = denied_data lease denial
+
+-- a page of leases
+abbrev pub leases_data : ℕ → Items → Bool → Data
+leases_data cell leases more =
+    object (count (codes "cell") cell (member (codes "leases") (array leases) (member (codes "more") (boolean more) (text (codes "reply") (codes "leases") no_members))))
+
+abbrev pub lease_item : LeaseId → Data
+lease_item lease = string (lease_text lease)
+
+-- Replies to a request for a range: its ends,
+abbrev pub given_data : ℕ → ℕ → ℕ → ℕ → Data
+given_data cell n low high =
+    object (count (codes "cell") cell (count (codes "high") high (count (codes "low") low (count (codes "number") n (text (codes "reply") (codes "ranged") (text (codes "result") (codes "ok") no_members))))))
+
+-- a cell that the configuration lacks,
+abbrev pub unknown_data : ℕ → ℕ → Data
+unknown_data cell n =
+    object (count (codes "cell") cell (count (codes "number") n (text (codes "reply") (codes "ranged") (text (codes "result") (codes "unknown_cell") no_members))))
+
+-- the next number,
+abbrev pub too_far_data : ℕ → ℕ → ℕ → Data
+too_far_data cell n next =
+    object (count (codes "cell") cell (count (codes "next") next (count (codes "number") n (text (codes "reply") (codes "ranged") (text (codes "result") (codes "too_far") no_members)))))
+
+-- or where the last range ends
+abbrev pub exhausted_data : ℕ → ℕ → ℕ → Data
+exhausted_data cell n last =
+    object (count (codes "cell") cell (count (codes "last") last (count (codes "number") n (text (codes "reply") (codes "ranged") (text (codes "result") (codes "exhausted") no_members)))))
+
+abbrev pub ranged_data : ℕ → ℕ → RangedResult → Data
+ranged_data cell n (ranged.Good low high) = given_data cell n low high
+ranged_data cell n ranged.UnknownCell = unknown_data cell n
+ranged_data cell n (ranged.TooFar next) = too_far_data cell n next
+ranged_data cell n (ranged.Exhausted last) = exhausted_data cell n last
+
+-- a page of claims of one bucket
+abbrev pub claim_item : ClaimItem → Data
+claim_item claim =
+    object (count (codes "row") claim.origin.row (text (codes "subject") (kind_name claim.subject.kind) (count (codes "subject_id") claim.subject.id (count (codes "table") (kind_number claim.origin.table) (text (codes "value") claim.key.value no_members)))))
+
+abbrev pub claims_page_data : ℕ → List ℕ → ℕ → ℕ → ℕ → Items → Bool → Data
+claims_page_data cell bucket first last after items more =
+    object (count (codes "after") after (text (codes "bucket") bucket (count (codes "cell") cell (count (codes "first") first (member (codes "items") (array items) (count (codes "last") last (member (codes "more") (boolean more) (text (codes "reply") (codes "claims") no_members))))))))
+
+-- a cell that the configuration lacks
+abbrev pub no_cell_data : ℕ → Data
+no_cell_data cell = object (count (codes "cell") cell (text (codes "reply") (codes "no_cell") no_members))
 
 -- the data of a reply, and its text
 abbrev pub reply_data : Reply → Data
 reply_data (Begun lease result) = begun_data (lease_text lease) result
+reply_data (Committed lease result) = plain_data (lease_text lease) (codes "committed") (committed_text result)
+reply_data (RolledBack lease result) = plain_data (lease_text lease) (codes "rolled_back") (rolled_back_text result)
+reply_data (Leases cell page) = leases_data cell (items_of (map lease_item page.leases)) page.more
+reply_data (Ranged cell n result) = ranged_data cell n result
+reply_data (Claims cell bucket first last after page) = claims_page_data cell (bucket_name bucket) first last after (items_of (map claim_item page.items)) page.more
+reply_data (NoCell cell) = no_cell_data cell
 
 unfoldable pub reply_text : Reply → List ℕ
 reply_text reply = compact_text (reply_data reply)
 
 -- the data of a fault, and its text
 abbrev pub words_fault : List ℕ → Data
-words_fault words = object (member (codes "fault") (string words) no_members)
+words_fault words = object (text (codes "fault") words no_members)
 
 abbrev pub member_fault : List ℕ → List ℕ → Data
-member_fault words which = object (member (codes "fault") (string words) (member (codes "member") (string which) no_members))
+member_fault words which = object (text (codes "fault") words (text (codes "member") which no_members))
 
 abbrev pub fault_data : BodyFault → Data
 fault_data NotJson = words_fault (codes "not json")
-fault_data (Missing which) = member_fault (codes "bad value") (member_text which)
-fault_data (WrongKind which) = member_fault (codes "bad value") (member_text which)
+fault_data (Missing which) = member_fault (codes "missing") (member_text which)
+fault_data (WrongKind which) = member_fault (codes "wrong kind") (member_text which)
 fault_data (BadValue which) = member_fault (codes "bad value") (member_text which)
 fault_data Memory = words_fault (codes "memory")
 

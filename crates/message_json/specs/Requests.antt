@@ -1,90 +1,86 @@
 -- The request that a body is, or the first fault in the order of the members.
-use Rattle.std.specs.Prelude.{◌≡◌, ℕ, ◌+◌, Bool, true, false, ◌&&◌, ◌==◌, nat_le, if◌then◌else◌, List, [], ◌∷◌, codes, Option, Some, None, Result, Ok, Err}
+use Rattle.std.specs.Prelude.{ℕ, if◌then◌else◌, List, codes, Option, Some, None, Result, Ok, Err}
 use Rattle.std.specs.Str.{bytes_eq, is_utf8}
-use Rattle.serde_json.specs.Data.{Data, null, boolean, number, string, array, object, Items, no_items, item}
+use Rattle.serde_json.specs.Data.{Data, null, boolean, number, string, array, object}
 use Rattle.serde_json.specs.Find.{as_object}
 use Rattle.serde_json.specs.Read.{read}
-use Rattle.claim_types.specs.declared.lease.LeaseId.{LeaseId}
-use Rattle.claim_types.specs.declared.key.Bucket.{Bucket}
-use Rattle.claim_types.specs.declared.key.Bucket.TheVariants.{OrganizationPath, Route, Address, SshKey, PagesDomain}
 use Rattle.claim_types.specs.declared.key.ClaimKey.{ClaimKey}
 use Rattle.claim_types.specs.declared.operations.Create.{Create}
 use Rattle.claim_types.specs.declared.message.Request.{Request}
-use Rattle.claim_types.specs.declared.message.Request.TheVariants.{Begin}
-use Rattle.claim_types.specs.declared.limits.TheConstants.{OPERATIONS, GREATEST_IDENTIFIER}
-use Rattle.message_json.specs.declared.member.Member.TheVariants.{Ask, Lease, Creates, Destroys, Bucket as BucketMember, SubjectId, Row}
+use Rattle.claim_types.specs.declared.message.Request.TheVariants.{Begin, Commit, Rollback, List as ListRequest, Range, Claims}
+use Rattle.claim_types.specs.declared.limits.TheConstants.{GREATEST_IDENTIFIER}
+use Rattle.message_json.specs.declared.member.Member.TheVariants.{Ask, Lease, Creates, Destroys, Cell, After, Number, First, Last}
 use Rattle.message_json.specs.declared.fault.BodyFault.{BodyFault}
 use Rattle.message_json.specs.declared.fault.BodyFault.TheVariants.{NotJson, BadValue}
-use Rattle.message_json.specs.declared.request.TheConstants.{FIRST_ROWS}
-use Rattle.message_json.specs.Reading.{◌>>=◌, of_kind, in_bounds, text_member, number_member, array_member, lease_member, bucket_member, key_member, subject_kind_member, table_member}
+use Rattle.message_json.specs.Reading.{◌>>=◌, of_kind, text_member, number_member, greatest_number, cell_named, array_member, each, lease_member, after_member, bucket_member, key_members, claim_members}
 
--- The first service knows one cell and its routes, and destroys nothing.
-abbrev pub of_first_cell : LeaseId → Option LeaseId
-of_first_cell lease = if lease.cell == 1 then Some lease else None
-
-abbrev pub of_routes : Bucket → Option Bucket
-of_routes OrganizationPath = None
-of_routes Route = Some Route
-of_routes Address = None
-of_routes SshKey = None
-of_routes PagesDomain = None
-
-abbrev pub item_count : Items → ℕ
-item_count no_items = 0
-item_count (item d ds) = item_count ds + 1
-
--- 1 to 64 elements, and none
-abbrev pub has_right_number : Items → Bool
-has_right_number ds = nat_le 1 (item_count ds) && nat_le (item_count ds) OPERATIONS
-
-abbrev pub is_nothing : Items → Bool
-is_nothing no_items = true
-is_nothing (item d ds) = false
-
--- a create has these members
+-- an element of `creates` is an object with a bucket and the members of a claim
 abbrev pub create_members : Data → Result Create BodyFault
 create_members d = do
-  any ← bucket_member d
-  bucket ← in_bounds BucketMember (of_routes any)
-  key ← key_member bucket d
-  subject_kind ← subject_kind_member d
-  subject_id ← number_member SubjectId 1 GREATEST_IDENTIFIER d
-  table ← table_member d
-  row ← number_member Row 1 FIRST_ROWS d
-  Ok (record { key = key; subject = record { kind = subject_kind; id = subject_id }; origin = record { table = table; row = row } })
+  bucket ← bucket_member d
+  claim ← claim_members bucket d
+  Ok (record { key = claim.key; subject = claim.subject; origin = claim.origin })
 
--- an element of `creates`, which has to be an object
 unfoldable pub create_of : Data → Result Create BodyFault
 create_of d = of_kind Creates (as_object d) >>= λ ms. create_members d
 
--- each element in turn, up to the first fault
-abbrev pub creates_of : Items → Result (List Create) BodyFault
-creates_of no_items = Ok []
-creates_of (item d ds) = create_of d >>= λ c. creates_of ds >>= λ cs. Ok (c ∷ cs)
-
--- the members of a begin
-abbrev pub first_lease : Data → Result LeaseId BodyFault
-first_lease body = lease_member Lease body >>= λ lease. in_bounds Lease (of_first_cell lease)
+-- an element of `destroys` is an object with the members of a key
+unfoldable pub destroy_of : Data → Result ClaimKey BodyFault
+destroy_of d = of_kind Destroys (as_object d) >>= λ ms. key_members d
 
 unfoldable pub creates_member : Data → Result (List Create) BodyFault
-creates_member body = array_member Creates body >>= λ ds. if has_right_number ds then creates_of ds else Err (BadValue Creates)
+creates_member body = array_member Creates body >>= λ ds. each create_of ds
 
 unfoldable pub destroys_member : Data → Result (List ClaimKey) BodyFault
-destroys_member body = array_member Destroys body >>= λ ds. if is_nothing ds then Ok [] else Err (BadValue Destroys)
+destroys_member body = array_member Destroys body >>= λ ds. each destroy_of ds
 
--- a begin
-abbrev pub begin_of : Data → Result Request BodyFault
+-- each ask has these members
+unfoldable pub begin_of : Data → Result Request BodyFault
 begin_of body = do
-  lease ← first_lease body
+  lease ← lease_member Lease body
   creates ← creates_member body
   destroys ← destroys_member body
   Ok (Begin lease (record { creates = creates; destroys = destroys }))
 
+unfoldable pub commit_of : Data → Result Request BodyFault
+commit_of body = lease_member Lease body >>= λ lease. Ok (Commit lease)
+
+unfoldable pub rollback_of : Data → Result Request BodyFault
+rollback_of body = lease_member Lease body >>= λ lease. Ok (Rollback lease)
+
+unfoldable pub list_of : Data → Result Request BodyFault
+list_of body = do
+  cell ← cell_named Cell body
+  after ← after_member body
+  Ok (ListRequest cell after)
+
+unfoldable pub range_of : Data → Result Request BodyFault
+range_of body = do
+  cell ← cell_named Cell body
+  n ← number_member Number 1 greatest_number body
+  Ok (Range cell n)
+
+unfoldable pub claims_of : Data → Result Request BodyFault
+claims_of body = do
+  cell ← cell_named Cell body
+  bucket ← bucket_member body
+  first ← number_member First 0 greatest_number body
+  last ← number_member Last first greatest_number body
+  after ← number_member After 0 GREATEST_IDENTIFIER body
+  Ok (Claims cell bucket first last after)
+
 -- the ask says which members follow
 abbrev pub asked : List ℕ → Data → Result Request BodyFault
-asked ask body = if bytes_eq ask (codes "begin") then begin_of body else Err (BadValue Ask)
+asked ask body =
+    if bytes_eq ask (codes "begin") then begin_of body
+    else if bytes_eq ask (codes "commit") then commit_of body
+    else if bytes_eq ask (codes "rollback") then rollback_of body
+    else if bytes_eq ask (codes "list") then list_of body
+    else if bytes_eq ask (codes "range") then range_of body
+    else if bytes_eq ask (codes "claims") then claims_of body
+    else Err (BadValue Ask)
 
-abbrev pub of_object : Data → Result Request BodyFault
+unfoldable pub of_object : Data → Result Request BodyFault
 of_object body = text_member Ask body >>= λ ask. asked ask body
 
 -- a body is an object

@@ -1,24 +1,38 @@
-//! The bodies of messages, in JSON.
-//!
-//! A request is read from a body, and a reply is written as one:
+//! The bodies of messages, in JSON: requests to the service and its replies, both ways.
 //!
 //! ```text
 //! let request = read_request(alloc, line)?;      // or the first fault, with the member's name
 //! let body = write_reply(alloc, &reply)?;        // compact, members in order of their names
+//! let reply = read_reply(alloc, body.as_slice())?;
 //! ```
 //!
-//! Promised: [`read_request`] gives exactly the request, or the first fault, that `specs/Requests` says
-//! of the value that `serde_json` reads; [`write_reply`] and [`write_fault`] give exactly the texts that
-//! `specs/Replies` states.
+//! Members are sought depth first, in the order of `specs/Requests` and `specs/ReplyReading`: the
+//! first one that is absent, of another kind or outside its bounds is the fault. Members that no
+//! rule names are passed over. The bodies that are written stand in `specs/RequestTexts` and
+//! `specs/Replies`, and the bounds in `specs/Bounds`.
+//!
+//! Promised: the readers give exactly the message, or the first fault, that these definitions state
+//! for the value that `serde_json` reads; the writers give exactly their texts; and what a writer
+//! wrote of a message within its bounds is read again as the same, as a clause of the writer and as
+//! the laws [`requests_return`] and [`replies_return`].
 #![tactic(auto)]
 
 mod fault;
+mod fault_writer;
+mod laws;
 mod member;
 mod reader;
 mod reply;
+mod reply_reader;
 mod request;
+mod request_writer;
+mod texts;
 
 pub use fault::BodyFault;
+pub use fault_writer::write_fault;
+pub use laws::{replies_return, requests_return};
 pub use member::Member;
-pub use reply::{write_fault, write_reply};
+pub use reply::write_reply;
+pub use reply_reader::read_reply;
 pub use request::read_request;
+pub use request_writer::write_request;

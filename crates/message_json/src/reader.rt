@@ -1,17 +1,22 @@
 //! The members of a body, each read by its rule.
-ghost use Rattle.std.specs.Prelude.{◌≡◌, IfOk, IfSome};
+ghost use Rattle.std.specs.Prelude.{◌≡◌, ◌≤◌, IfOk, IfSome};
+ghost use Rattle.claim_types.specs.Bounds.{IsCell, IsSubjectKind};
 ghost use Rattle.claim_types.specs.Leases.{IsLease};
-ghost use Rattle.claim_types.specs.Writable.{IsWritableKey};
 ghost use Rattle.serde_json.specs.View.{view, items_view};
+ghost use Rattle.message_json.specs.Bounds.{IsAfter, IsClaim, IsKey};
 ghost use Rattle.message_json.specs.Reading as spec;
 ghost use Rattle.message_json.specs.Reading.{Gives};
 
 use crate::{BodyFault, Member};
-use claim_types::{Bucket, ClaimKey, KeyFault, Kind, LeaseId};
+use claim_types::{
+    Bucket, ClaimItem, ClaimKey, GREATEST_CELL, GREATEST_IDENTIFIER, KeyFault, Kind, LeaseId,
+    Origin, Subject,
+};
 use serde_json::Value;
 use std::alloc::Global;
 use uuid::Uuid;
 
+#[tactic(auto, unfolding(crate::specs::Reading::member_of))]
 fn member_of(body: &Value, name: Member) -> Result<&Value, BodyFault>
     ensures { spec.Finds result (spec.member_of name (view body.now)) }
 {
@@ -21,6 +26,7 @@ fn member_of(body: &Value, name: Member) -> Result<&Value, BodyFault>
     }
 }
 
+#[tactic(auto, unfolding(crate::specs::Reading::text_member))]
 pub fn text(body: &Value, name: Member) -> Result<&str, BodyFault>
     ensures { spec.FindsText result (spec.text_member name (view body.now)) }
 {
@@ -30,8 +36,11 @@ pub fn text(body: &Value, name: Member) -> Result<&str, BodyFault>
     }
 }
 
+#[tactic(auto, unfolding(crate::specs::Reading::number_member))]
 pub fn number(body: &Value, name: Member, low: u64, high: u64) -> Result<u64, BodyFault>
-    ensures { result ≡ spec.number_member name low high (view body.now) }
+    ensures value { result ≡ spec.number_member name low high (view body.now) }
+    ensures low { IfOk result (λ n. low ≤ n) }
+    ensures high { IfOk result (λ n. n ≤ high) }
 {
     let value = member_of(body, name)?;
     if !value.is_number() {
@@ -48,6 +57,25 @@ pub fn number(body: &Value, name: Member, low: u64, high: u64) -> Result<u64, Bo
     }
 }
 
+pub fn cell(body: &Value, name: Member) -> Result<u16, BodyFault>
+    ensures value { result ≡ spec.cell_named name (view body.now) }
+    ensures bounds { IfOk result IsCell }
+{
+    let cell = number(body, name, 1, GREATEST_CELL as u64)?;
+    Ok(cell as u16)
+}
+
+#[tactic(auto, unfolding(crate::specs::Reading::flag_member))]
+pub fn flag(body: &Value, name: Member) -> Result<bool, BodyFault>
+    ensures { result ≡ spec.flag_member name (view body.now) }
+{
+    match member_of(body, name)?.as_bool() {
+        Some(flag) => Ok(flag),
+        None => Err(BodyFault::WrongKind { name }),
+    }
+}
+
+#[tactic(auto, unfolding(crate::specs::Reading::array_member))]
 pub fn array(body: &Value, name: Member) -> Result<&[Value], BodyFault>
     ensures { spec.FindsItems result (spec.array_member name (view body.now)) }
 {
@@ -57,7 +85,8 @@ pub fn array(body: &Value, name: Member) -> Result<&[Value], BodyFault>
     }
 }
 
-fn lease_named(text: &str) -> Option<LeaseId>
+#[tactic(auto, unfolding(crate::specs::Reading::lease_named))]
+pub fn lease_named(text: &str) -> Option<LeaseId>
     ensures value { result ≡ spec.lease_named text.now }
     ensures bounds { IfSome result IsLease }
 {
@@ -67,6 +96,7 @@ fn lease_named(text: &str) -> Option<LeaseId>
     }
 }
 
+#[tactic(auto, unfolding(crate::specs::Reading::lease_member))]
 pub fn lease(body: &Value, name: Member) -> Result<LeaseId, BodyFault>
     ensures value { result ≡ spec.lease_member name (view body.now) }
     ensures bounds { IfOk result IsLease }
@@ -77,6 +107,32 @@ pub fn lease(body: &Value, name: Member) -> Result<LeaseId, BodyFault>
     }
 }
 
+fn lease_or_null(value: &Value, name: Member) -> Result<Option<LeaseId>, BodyFault>
+    ensures value { result ≡ spec.lease_or_null name (view value.now) }
+    ensures bounds { IfOk result IsAfter }
+{
+    match value {
+        Value::Null => Ok(None),
+        Value::String(text) => {
+            match lease_named(text.as_str()) {
+                Some(lease) => Ok(Some(lease)),
+                None => Err(BodyFault::BadValue { name }),
+            }
+        }
+        _ => Err(BodyFault::WrongKind { name }),
+    }
+}
+
+#[tactic(auto, unfolding(crate::specs::Reading::after_member))]
+pub fn after(body: &Value) -> Result<Option<LeaseId>, BodyFault>
+    ensures value { result ≡ spec.after_member (view body.now) }
+    ensures bounds { IfOk result IsAfter }
+{
+    let name = Member::After;
+    lease_or_null(member_of(body, name)?, name)
+}
+
+#[tactic(auto, unfolding(crate::specs::Reading::bucket_member))]
 pub fn bucket(body: &Value) -> Result<Bucket, BodyFault>
     ensures { result ≡ spec.bucket_member (view body.now) }
 {
@@ -87,8 +143,10 @@ pub fn bucket(body: &Value) -> Result<Bucket, BodyFault>
     }
 }
 
-pub fn subject_kind(body: &Value) -> Result<Kind, BodyFault>
-    ensures { result ≡ spec.subject_kind_member (view body.now) }
+#[tactic(auto, unfolding(crate::specs::Reading::subject_kind_member))]
+fn subject_kind(body: &Value) -> Result<Kind, BodyFault>
+    ensures value { result ≡ spec.subject_kind_member (view body.now) }
+    ensures bounds { IfOk result IsSubjectKind }
 {
     let name = Member::Subject;
     match Kind::subject_from_name(text(body, name)?) {
@@ -97,7 +155,8 @@ pub fn subject_kind(body: &Value) -> Result<Kind, BodyFault>
     }
 }
 
-pub fn table(body: &Value) -> Result<Kind, BodyFault>
+#[tactic(auto, unfolding(crate::specs::Reading::table_member))]
+fn table(body: &Value) -> Result<Kind, BodyFault>
     ensures { result ≡ spec.table_member (view body.now) }
 {
     let name = Member::Table;
@@ -108,9 +167,11 @@ pub fn table(body: &Value) -> Result<Kind, BodyFault>
     }
 }
 
-pub fn key(alloc: Global, body: &Value, bucket: Bucket) -> Result<ClaimKey, BodyFault>
+#[tactic(auto, unfolding(crate::specs::Reading::key_member))]
+fn key(alloc: Global, body: &Value, bucket: Bucket) -> Result<ClaimKey, BodyFault>
     ensures value { Gives result (spec.key_member bucket (view body.now)) }
-    ensures text { IfOk result IsWritableKey }
+    ensures bounds { IfOk result IsKey }
+    ensures bucket { IfOk result (λ key. key.bucket ≡ bucket) }
 {
     let name = Member::Value;
     match ClaimKey::read(alloc, bucket, text(body, name)?.as_bytes()) {
@@ -118,4 +179,32 @@ pub fn key(alloc: Global, body: &Value, bucket: Bucket) -> Result<ClaimKey, Body
         Err(KeyFault::Memory) => Err(BodyFault::Memory),
         Err(_) => Err(BodyFault::BadValue { name }),
     }
+}
+
+// A key by its bucket and its value.
+#[tactic(auto, unfolding(crate::specs::Reading::key_members))]
+pub fn key_of(alloc: Global, body: &Value) -> Result<ClaimKey, BodyFault>
+    ensures value { Gives result (spec.key_members (view body.now)) }
+    ensures bounds { IfOk result IsKey }
+{
+    let bucket = bucket(body)?;
+    key(alloc, body, bucket)
+}
+
+// The members of a claim of this bucket.
+#[tactic(auto, unfolding(crate::specs::Reading::claim_members))]
+pub fn claim(alloc: Global, body: &Value, bucket: Bucket) -> Result<ClaimItem, BodyFault>
+    ensures value { Gives result (spec.claim_members bucket (view body.now)) }
+    ensures bounds { IfOk result (IsClaim bucket) }
+{
+    let key = key(alloc, body, bucket)?;
+    let kind = subject_kind(body)?;
+    let id = number(body, Member::SubjectId, 1, GREATEST_IDENTIFIER)?;
+    let table = table(body)?;
+    let row = number(body, Member::Row, 1, GREATEST_IDENTIFIER)?;
+    Ok(ClaimItem {
+        key,
+        subject: Subject { kind, id },
+        origin: Origin { table, row },
+    })
 }

@@ -1,11 +1,20 @@
-ghost use Rattle.std.specs.Prelude.{◌≡◌, ◌≤◌, IfOk, IsUtf8, length, string_bytes};
-ghost use Rattle.serde_json.specs.View.{view};
+//! Replies as they are written.
+ghost use Rattle.std.specs.Prelude.{◌≡◌, IfOk, Ok, map};
+ghost use Rattle.std.specs.List.{All};
+ghost use Rattle.serde_json.specs.View.{view, items_view, items_of};
 ghost use Rattle.claim_types.specs.Leases.{IsLease};
-ghost use Rattle.claim_types.specs.Writable.{IsWritableDenial, IsWritableResult, IsWritableReply};
+ghost use Rattle.claim_types.specs.Names.{bucket_name};
+ghost use Rattle.claim_types.specs.Writable.{AreWritableClaims, AreWritableLeases, IsWritableDenial, IsWritableKey, IsWritableResult, IsWritableReply};
+ghost use Rattle.message_json.specs.Bounds.{IsReply};
+ghost use Rattle.message_json.specs.ReplyReading.{reply_of};
 ghost use Rattle.message_json.specs.Replies as spec;
+ghost use Rattle.message_json.specs.Texts.{lease_text};
 
-use crate::BodyFault;
-use claim_types::{BegunResult, ClaimKey, Denial, How, LeaseId, NoMemory, Reply, Text};
+use crate::texts::{compact, lease_text, text_of};
+use claim_types::{
+    BegunResult, Bucket, ClaimItem, ClaimKey, ClaimPage, CommittedResult, Denial, How, LeaseId,
+    LeasePage, NoMemory, RangedResult, Reply, RolledBackResult, Text,
+};
 use serde_json::{Value, json};
 use std::alloc::{AllocError, Global};
 use uuid::Uuid;
@@ -19,29 +28,29 @@ fn how_text(how: How) -> &'static str
     }
 }
 
-// The text of a lease, at the start of the room.
-fn lease_text(lease: LeaseId, room: &mut [u8]) -> &str
-    requires bounds { IsLease lease }
-    requires room { 36 ≤ length room.old }
-    ensures { result.now ≡ spec.lease_text lease }
+fn committed_text(outcome: CommittedResult) -> &'static str
+    ensures { result.now ≡ spec.committed_text outcome }
 {
-    lease.to_uuid().hyphenated().encode_lower(room)
-}
-
-fn text_of(text: &Text) -> &str
-    requires { IsUtf8 text.now }
-    ensures { result.now ≡ text.now }
-{
-    match str::from_utf8(text.as_slice()) {
-        Ok(text) => text,
-        Err(_) => unreachable!(),
+    match outcome {
+        CommittedResult::Good => "ok",
+        CommittedResult::Unknown => "unknown",
+        CommittedResult::WasRolledBack => "was_rolled_back",
     }
 }
 
-fn plain(alloc: Global, lease: &str, outcome: &str) -> Result<Value, AllocError>
-    ensures { IfOk result (λ v. view v ≡ spec.plain_data lease.now outcome.now) }
+fn rolled_back_text(outcome: RolledBackResult) -> &'static str
+    ensures { result.now ≡ spec.rolled_back_text outcome }
 {
-    json!(in alloc; { "lease": lease, "reply": "begun", "result": outcome })
+    match outcome {
+        RolledBackResult::Good => "ok",
+        RolledBackResult::WasCommitted => "was_committed",
+    }
+}
+
+fn plain(alloc: Global, lease: &str, reply: &str, outcome: &str) -> Result<Value, AllocError>
+    ensures { IfOk result (λ v. view v ≡ spec.plain_data lease.now reply.now outcome.now) }
+{
+    json!(in alloc; { "lease": lease, "reply": reply, "result": outcome })
 }
 
 fn settled(alloc: Global, lease: &str, how: &str) -> Result<Value, AllocError>
@@ -62,54 +71,40 @@ fn foreign(alloc: Global, lease: &str, id: u64) -> Result<Value, AllocError>
     json!(in alloc; { "id": id, "lease": lease, "reply": "begun", "result": "foreign_id" })
 }
 
-fn keyed(
-    alloc: Global,
-    lease: &str,
-    outcome: &str,
-    bucket: &str,
-    value: &str,
-) -> Result<Value, AllocError>
-    ensures { IfOk result (λ v. view v ≡ spec.keyed_data lease.now outcome.now bucket.now value.now) }
+fn keyed(alloc: Global, lease: &str, outcome: &str, key: &ClaimKey) -> Result<Value, AllocError>
+    requires { IsWritableKey key.now }
+    ensures { IfOk result (λ v. view v ≡ spec.keyed_data lease.now outcome.now (bucket_name key.now.bucket) key.now.value) }
 {
+    let bucket = key.bucket.name();
+    let value = text_of(&key.value);
     json!(in alloc; { "bucket": bucket, "lease": lease, "reply": "begun", "result": outcome, "value": value })
 }
 
-fn owned(
-    alloc: Global,
-    lease: &str,
-    bucket: &str,
-    value: &str,
-    owner: u16,
-) -> Result<Value, AllocError>
-    ensures { IfOk result (λ v. view v ≡ spec.owned_data lease.now bucket.now value.now owner) }
+fn owned(alloc: Global, lease: &str, key: &ClaimKey, owner: u16) -> Result<Value, AllocError>
+    requires { IsWritableKey key.now }
+    ensures { IfOk result (λ v. view v ≡ spec.owned_data lease.now (bucket_name key.now.bucket) key.now.value owner) }
 {
+    let bucket = key.bucket.name();
+    let value = text_of(&key.value);
     json!(in alloc; { "bucket": bucket, "lease": lease, "owner": owner, "reply": "begun", "result": "owned", "value": value })
 }
 
-fn leased(
-    alloc: Global,
-    lease: &str,
-    bucket: &str,
-    value: &str,
-    by: &str,
-) -> Result<Value, AllocError>
-    ensures { IfOk result (λ v. view v ≡ spec.leased_data lease.now bucket.now value.now by.now) }
+fn leased(alloc: Global, lease: &str, key: &ClaimKey, by: &str) -> Result<Value, AllocError>
+    requires { IsWritableKey key.now }
+    ensures { IfOk result (λ v. view v ≡ spec.leased_data lease.now (bucket_name key.now.bucket) key.now.value by.now) }
 {
+    let bucket = key.bucket.name();
+    let value = text_of(&key.value);
     json!(in alloc; { "bucket": bucket, "by": by, "lease": lease, "reply": "begun", "result": "leased", "value": value })
 }
 
-fn leased_by(
-    alloc: Global,
-    lease: &str,
-    bucket: &str,
-    value: &str,
-    by: LeaseId,
-) -> Result<Value, AllocError>
-    requires { IsLease by }
-    ensures { IfOk result (λ v. view v ≡ spec.leased_data lease.now bucket.now value.now (spec.lease_text by)) }
+fn leased_by(alloc: Global, lease: &str, key: &ClaimKey, by: LeaseId) -> Result<Value, AllocError>
+    requires text { IsWritableKey key.now }
+    requires bounds { IsLease by }
+    ensures { IfOk result (λ v. view v ≡ spec.leased_data lease.now (bucket_name key.now.bucket) key.now.value (lease_text by)) }
 {
     let mut room = Uuid::encode_buffer();
-    leased(alloc, lease, bucket, value, lease_text(by, &mut room))
+    leased(alloc, lease, key, lease_text(by, &mut room))
 }
 
 fn denied(alloc: Global, lease: &str, denial: &Denial) -> Result<Value, AllocError>
@@ -118,34 +113,14 @@ fn denied(alloc: Global, lease: &str, denial: &Denial) -> Result<Value, AllocErr
 {
     match denial {
         Denial::Settled { how } => settled(alloc, lease, how_text(*how)),
-        Denial::OtherOperations => plain(alloc, lease, "other_operations"),
+        Denial::OtherOperations => plain(alloc, lease, "begun", "other_operations"),
         Denial::NoneOrTooMany { n } => count(alloc, lease, *n),
-        Denial::Twice { key } => {
-            keyed(
-                alloc,
-                lease,
-                "twice",
-                key.bucket.name(),
-                text_of(&key.value),
-            )
-        }
+        Denial::Twice { key } => keyed(alloc, lease, "twice", key),
         Denial::ForeignId { id } => foreign(alloc, lease, *id),
-        Denial::TooManyOpen => plain(alloc, lease, "too_many_open"),
-        Denial::Owned { key, cell } => {
-            owned(alloc, lease, key.bucket.name(), text_of(&key.value), *cell)
-        }
-        Denial::Leased { key, lease: by } => {
-            leased_by(alloc, lease, key.bucket.name(), text_of(&key.value), *by)
-        }
-        Denial::NotOwned { key } => {
-            keyed(
-                alloc,
-                lease,
-                "not_owned",
-                key.bucket.name(),
-                text_of(&key.value),
-            )
-        }
+        Denial::TooManyOpen => plain(alloc, lease, "begun", "too_many_open"),
+        Denial::Owned { key, cell } => owned(alloc, lease, key, *cell),
+        Denial::Leased { key, lease: by } => leased_by(alloc, lease, key, *by),
+        Denial::NotOwned { key } => keyed(alloc, lease, "not_owned", key),
     }
 }
 
@@ -154,7 +129,7 @@ fn begun(alloc: Global, lease: &str, outcome: &BegunResult) -> Result<Value, All
     ensures { IfOk result (λ v. view v ≡ spec.begun_data lease.now outcome.now) }
 {
     match outcome {
-        BegunResult::Good => plain(alloc, lease, "ok"),
+        BegunResult::Good => plain(alloc, lease, "begun", "ok"),
         BegunResult::Denied(denial) => denied(alloc, lease, denial),
     }
 }
@@ -162,10 +137,169 @@ fn begun(alloc: Global, lease: &str, outcome: &BegunResult) -> Result<Value, All
 fn begun_reply(alloc: Global, lease: LeaseId, outcome: &BegunResult) -> Result<Value, AllocError>
     requires bounds { IsLease lease }
     requires texts { IsWritableResult outcome.now }
-    ensures { IfOk result (λ v. view v ≡ spec.begun_data (spec.lease_text lease) outcome.now) }
+    ensures { IfOk result (λ v. view v ≡ spec.begun_data (lease_text lease) outcome.now) }
 {
     let mut room = Uuid::encode_buffer();
     begun(alloc, lease_text(lease, &mut room), outcome)
+}
+
+fn about_lease(
+    alloc: Global,
+    lease: LeaseId,
+    reply: &str,
+    outcome: &str,
+) -> Result<Value, AllocError>
+    requires { IsLease lease }
+    ensures { IfOk result (λ v. view v ≡ spec.plain_data (lease_text lease) reply.now outcome.now) }
+{
+    let mut room = Uuid::encode_buffer();
+    plain(alloc, lease_text(lease, &mut room), reply, outcome)
+}
+
+fn lease_value(alloc: Global, lease: LeaseId) -> Result<Value, AllocError>
+    requires { IsLease lease }
+    ensures { IfOk result (λ v. view v ≡ spec.lease_item lease) }
+{
+    let mut room = Uuid::encode_buffer();
+    Value::try_from_str(alloc, lease_text(lease, &mut room))
+}
+
+fn lease_values(alloc: Global, leases: &[LeaseId]) -> Result<Vec<Value>, AllocError>
+    requires { All IsLease leases.now }
+    ensures { IfOk result (λ values. map view values.items ≡ map spec.lease_item leases.now) }
+{
+    let mut values = Vec::with_capacity(alloc, leases.len())?;
+    for lease in leases {
+        let value = lease_value(alloc, *lease)?;
+        values.push(value)?;
+    }
+    Ok(values)
+}
+
+fn leases_value(
+    alloc: Global,
+    cell: u16,
+    leases: Vec<Value>,
+    more: bool,
+) -> Result<Value, AllocError>
+    ensures { IfOk result (λ v. view v ≡ spec.leases_data cell (items_view leases.items) more) }
+{
+    json!(in alloc; { "cell": cell, "leases": leases, "more": more, "reply": "leases" })
+}
+
+fn leases_reply(alloc: Global, cell: u16, page: &LeasePage) -> Result<Value, AllocError>
+    requires { AreWritableLeases page.now.leases }
+    ensures { IfOk result (λ v. view v ≡ spec.leases_data cell (items_of (map spec.lease_item page.now.leases)) page.now.more) }
+{
+    let leases = lease_values(alloc, page.leases.as_slice())?;
+    leases_value(alloc, cell, leases, page.more)
+}
+
+fn given(alloc: Global, cell: u16, number: u64, low: u64, high: u64) -> Result<Value, AllocError>
+    ensures { IfOk result (λ v. view v ≡ spec.given_data cell number low high) }
+{
+    json!(in alloc; { "cell": cell, "high": high, "low": low, "number": number, "reply": "ranged", "result": "ok" })
+}
+
+fn unknown_cell(alloc: Global, cell: u16, number: u64) -> Result<Value, AllocError>
+    ensures { IfOk result (λ v. view v ≡ spec.unknown_data cell number) }
+{
+    json!(in alloc; { "cell": cell, "number": number, "reply": "ranged", "result": "unknown_cell" })
+}
+
+fn too_far(alloc: Global, cell: u16, number: u64, next: u64) -> Result<Value, AllocError>
+    ensures { IfOk result (λ v. view v ≡ spec.too_far_data cell number next) }
+{
+    json!(in alloc; { "cell": cell, "next": next, "number": number, "reply": "ranged", "result": "too_far" })
+}
+
+fn exhausted(alloc: Global, cell: u16, number: u64, last: u64) -> Result<Value, AllocError>
+    ensures { IfOk result (λ v. view v ≡ spec.exhausted_data cell number last) }
+{
+    json!(in alloc; { "cell": cell, "last": last, "number": number, "reply": "ranged", "result": "exhausted" })
+}
+
+fn ranged_reply(
+    alloc: Global,
+    cell: u16,
+    number: u64,
+    outcome: RangedResult,
+) -> Result<Value, AllocError>
+    ensures { IfOk result (λ v. view v ≡ spec.ranged_data cell number outcome) }
+{
+    match outcome {
+        RangedResult::Good { low, high } => given(alloc, cell, number, low, high),
+        RangedResult::UnknownCell => unknown_cell(alloc, cell, number),
+        RangedResult::TooFar { next } => too_far(alloc, cell, number, next),
+        RangedResult::Exhausted { last } => exhausted(alloc, cell, number, last),
+    }
+}
+
+fn claim_value(alloc: Global, claim: &ClaimItem) -> Result<Value, AllocError>
+    requires { IsWritableKey claim.now.key }
+    ensures { IfOk result (λ v. view v ≡ spec.claim_item claim.now) }
+{
+    let value = text_of(&claim.key.value);
+    let subject = claim.subject.kind.name();
+    let id = claim.subject.id;
+    let table = claim.origin.table.number();
+    let row = claim.origin.row;
+    json!(in alloc; { "row": row, "subject": subject, "subject_id": id, "table": table, "value": value })
+}
+
+fn claim_values(alloc: Global, claims: &[ClaimItem]) -> Result<Vec<Value>, AllocError>
+    requires { AreWritableClaims claims.now }
+    ensures { IfOk result (λ values. map view values.items ≡ map spec.claim_item claims.now) }
+{
+    let mut values = Vec::with_capacity(alloc, claims.len())?;
+    for claim in claims {
+        let value = claim_value(alloc, claim)?;
+        values.push(value)?;
+    }
+    Ok(values)
+}
+
+/// What a request for claims names.
+#[derive(Clone, Copy)]
+struct Asked {
+    cell: u16,
+    bucket: Bucket,
+    first: u64,
+    last: u64,
+    after: u64,
+}
+
+fn claims_value(
+    alloc: Global,
+    asked: Asked,
+    items: Vec<Value>,
+    more: bool,
+) -> Result<Value, AllocError>
+    ensures { IfOk result (λ v. view v ≡ spec.claims_page_data asked.cell (bucket_name asked.bucket) asked.first asked.last asked.after (items_view items.items) more) }
+{
+    let Asked {
+        cell,
+        bucket,
+        first,
+        last,
+        after,
+    } = asked;
+    let name = bucket.name();
+    json!(in alloc; { "after": after, "bucket": name, "cell": cell, "first": first, "items": items, "last": last, "more": more, "reply": "claims" })
+}
+
+fn claims_reply(alloc: Global, asked: Asked, page: &ClaimPage) -> Result<Value, AllocError>
+    requires { AreWritableClaims page.now.items }
+    ensures { IfOk result (λ v. view v ≡ spec.claims_page_data asked.cell (bucket_name asked.bucket) asked.first asked.last asked.after (items_of (map spec.claim_item page.now.items)) page.now.more) }
+{
+    let items = claim_values(alloc, page.items.as_slice())?;
+    claims_value(alloc, asked, items, page.more)
+}
+
+fn no_cell(alloc: Global, cell: u16) -> Result<Value, AllocError>
+    ensures { IfOk result (λ v. view v ≡ spec.no_cell_data cell) }
+{
+    json!(in alloc; { "cell": cell, "reply": "no_cell" })
 }
 
 fn reply_value(alloc: Global, reply: &Reply) -> Result<Value, AllocError>
@@ -174,6 +308,36 @@ fn reply_value(alloc: Global, reply: &Reply) -> Result<Value, AllocError>
 {
     match reply {
         Reply::Begun { lease, result } => begun_reply(alloc, *lease, result),
+        Reply::Committed { lease, result } => {
+            about_lease(alloc, *lease, "committed", committed_text(*result))
+        }
+        Reply::RolledBack { lease, result } => {
+            about_lease(alloc, *lease, "rolled_back", rolled_back_text(*result))
+        }
+        Reply::Leases { cell, page } => leases_reply(alloc, *cell, page),
+        Reply::Ranged {
+            cell,
+            number,
+            result,
+        } => ranged_reply(alloc, *cell, *number, *result),
+        Reply::Claims {
+            cell,
+            bucket,
+            first,
+            last,
+            after,
+            page,
+        } => {
+            let asked = Asked {
+                cell: *cell,
+                bucket: *bucket,
+                first: *first,
+                last: *last,
+                after: *after,
+            };
+            claims_reply(alloc, asked, page)
+        }
+        Reply::NoCell { cell } => no_cell(alloc, *cell),
     }
 }
 
@@ -181,41 +345,9 @@ fn reply_value(alloc: Global, reply: &Reply) -> Result<Value, AllocError>
 #[tactic(auto, unfolding(crate::specs::Replies::reply_text))]
 pub fn write_reply(alloc: Global, reply: &Reply) -> Result<Text, NoMemory>
     requires { IsWritableReply reply.now }
-    ensures { IfOk result (λ text. text ≡ spec.reply_text reply.now) }
+    ensures text { IfOk result (λ text. text ≡ spec.reply_text reply.now) }
+    ensures reads_back { IfOk result (λ text. IsReply reply.now → reply_of text ≡ Ok reply.now) }
 {
-    let text = reply_value(alloc, reply)?.to_string(alloc)?;
-    Ok(Text::from_vec(text.into_bytes()))
-}
-
-fn fault_value(alloc: Global, words: &str) -> Result<Value, AllocError>
-    ensures { IfOk result (λ v. view v ≡ spec.words_fault words.now) }
-{
-    json!(in alloc; { "fault": words })
-}
-
-fn member_fault(alloc: Global, words: &str, name: &str) -> Result<Value, AllocError>
-    ensures { IfOk result (λ v. view v ≡ spec.member_fault words.now name.now) }
-{
-    json!(in alloc; { "fault": words, "member": name })
-}
-
-fn fault_of(alloc: Global, fault: BodyFault) -> Result<Value, AllocError>
-    ensures { IfOk result (λ v. view v ≡ spec.fault_data fault) }
-{
-    match fault {
-        BodyFault::NotJson => fault_value(alloc, "not json"),
-        BodyFault::Missing { name } => member_fault(alloc, "bad value", name.text()),
-        BodyFault::WrongKind { name } => member_fault(alloc, "bad value", name.text()),
-        BodyFault::BadValue { name } => member_fault(alloc, "bad value", name.text()),
-        BodyFault::Memory => fault_value(alloc, "memory"),
-    }
-}
-
-/// The body that names a fault.
-#[tactic(auto, unfolding(crate::specs::Replies::fault_text))]
-pub fn write_fault(alloc: Global, fault: BodyFault) -> Result<Text, NoMemory>
-    ensures { IfOk result (λ text. text ≡ spec.fault_text fault) }
-{
-    let text = fault_of(alloc, fault)?.to_string(alloc)?;
-    Ok(Text::from_vec(text.into_bytes()))
+    let value = reply_value(alloc, reply)?;
+    compact(alloc, &value)
 }

@@ -1,62 +1,58 @@
+//! Requests as they are read.
 ghost use Rattle.std.specs.Prelude.{◌≡◌, IfOk};
 ghost use Rattle.std.specs.List.{All};
-ghost use Rattle.claim_types.specs.Leases.{IsLease};
-ghost use Rattle.claim_types.specs.Writable.{IsWritableKey, IsWritableRequest};
+ghost use Rattle.claim_types.specs.Writable.{IsWritableRequest};
 ghost use Rattle.serde_json.specs.View.{view, items_view};
 ghost use Rattle.serde_json.specs.Read.{read as read_text};
-ghost use Rattle.message_json.specs.Reading.{Gives};
+ghost use Rattle.message_json.specs.Bounds.{IsCreate, IsKey, IsRequest};
+ghost use Rattle.message_json.specs.Reading.{Gives, each};
 ghost use Rattle.message_json.specs.Requests as spec;
 
-use crate::reader::{array, bucket, key, lease, number, subject_kind, table, text};
+use crate::reader::{after, array, bucket, cell, claim, key_of, lease, number, text};
 use crate::{BodyFault, Member};
 use claim_types::{
-    Bucket, Create, Creates, GREATEST_IDENTIFIER, Items, Keys, LeaseId, OPERATIONS, Operations,
-    Origin, Request, Subject,
+    ClaimItem, ClaimKey, Create, Creates, GREATEST_IDENTIFIER, Items, Keys, Operations, Request,
 };
 use serde_json::Value;
 use std::alloc::Global;
 
-/// The greatest row of a create in the first form.
-pub const FIRST_ROWS: u64 = 1_000_000;
-
-fn create_members(alloc: Global, body: &Value) -> Result<Create, BodyFault>
-    ensures value { Gives result (spec.create_members (view body.now)) }
-    ensures text { IfOk result (λ create. IsWritableKey create.key) }
-{
-    let bucket = bucket(body)?;
-    if bucket != Bucket::Route {
-        return Err(BodyFault::BadValue {
-            name: Member::Bucket,
-        });
-    }
-    let key = key(alloc, body, bucket)?;
-    let kind = subject_kind(body)?;
-    let id = number(body, Member::SubjectId, 1, GREATEST_IDENTIFIER)?;
-    let table = table(body)?;
-    let row = number(body, Member::Row, 1, FIRST_ROWS)?;
-    Ok(Create {
-        key,
-        subject: Subject { kind, id },
-        origin: Origin { table, row },
-    })
-}
-
 #[tactic(auto, unfolding(crate::specs::Requests::create_of))]
 fn create_of(alloc: Global, value: &Value) -> Result<Create, BodyFault>
     ensures value { Gives result (spec.create_of (view value.now)) }
-    ensures text { IfOk result (λ create. IsWritableKey create.key) }
+    ensures bounds { IfOk result IsCreate }
 {
+    let name = Member::Creates;
     if !value.is_object() {
-        return Err(BodyFault::WrongKind {
-            name: Member::Creates,
-        });
+        return Err(BodyFault::WrongKind { name });
     }
-    create_members(alloc, value)
+    let bucket = bucket(value)?;
+    let ClaimItem {
+        key,
+        subject,
+        origin,
+    } = claim(alloc, value, bucket)?;
+    Ok(Create {
+        key,
+        subject,
+        origin,
+    })
+}
+
+#[tactic(auto, unfolding(crate::specs::Requests::destroy_of))]
+fn destroy_of(alloc: Global, value: &Value) -> Result<ClaimKey, BodyFault>
+    ensures value { Gives result (spec.destroy_of (view value.now)) }
+    ensures bounds { IfOk result IsKey }
+{
+    let name = Member::Destroys;
+    if !value.is_object() {
+        return Err(BodyFault::WrongKind { name });
+    }
+    key_of(alloc, value)
 }
 
 fn creates_of(alloc: Global, values: &[Value]) -> Result<Creates, BodyFault>
-    ensures value { Gives result (spec.creates_of (items_view values.now)) }
-    ensures texts { IfOk result (λ creates. All (λ create. IsWritableKey create.key) creates) }
+    ensures value { Gives result (each spec.create_of (items_view values.now)) }
+    ensures bounds { IfOk result (All IsCreate) }
 {
     let mut creates = Vec::with_capacity(alloc, values.len())?;
     for value in values {
@@ -66,89 +62,139 @@ fn creates_of(alloc: Global, values: &[Value]) -> Result<Creates, BodyFault>
     Ok(Items::from_vec(creates))
 }
 
-fn first_lease(body: &Value) -> Result<LeaseId, BodyFault>
-    ensures value { result ≡ spec.first_lease (view body.now) }
-    ensures bounds { IfOk result IsLease }
+fn destroys_of(alloc: Global, values: &[Value]) -> Result<Keys, BodyFault>
+    ensures value { Gives result (each spec.destroy_of (items_view values.now)) }
+    ensures bounds { IfOk result (All IsKey) }
 {
-    let name = Member::Lease;
-    let lease = lease(body, name)?;
-    if lease.cell != 1 {
-        return Err(BodyFault::BadValue { name });
+    let mut destroys = Vec::with_capacity(alloc, values.len())?;
+    for value in values {
+        let destroy = destroy_of(alloc, value)?;
+        destroys.push(destroy)?;
     }
-    Ok(lease)
-}
-
-fn count_of(elements: &[Value]) -> u64
-    ensures { result ≡ spec.item_count (items_view elements.now) }
-{
-    elements.len() as u64
-}
-
-fn has_right_number(elements: &[Value]) -> bool
-    ensures { result ≡ spec.has_right_number (items_view elements.now) }
-{
-    let count = count_of(elements);
-    1 <= count && count <= OPERATIONS
-}
-
-fn is_nothing(elements: &[Value]) -> bool
-    ensures { result ≡ spec.is_nothing (items_view elements.now) }
-{
-    elements.is_empty()
+    Ok(Items::from_vec(destroys))
 }
 
 #[tactic(auto, unfolding(crate::specs::Requests::creates_member))]
-fn creates_member(alloc: Global, body: &Value) -> Result<Creates, BodyFault>
+fn creates(alloc: Global, body: &Value) -> Result<Creates, BodyFault>
     ensures value { Gives result (spec.creates_member (view body.now)) }
-    ensures texts { IfOk result (λ creates. All (λ create. IsWritableKey create.key) creates) }
+    ensures bounds { IfOk result (All IsCreate) }
 {
-    let name = Member::Creates;
-    let elements = array(body, name)?;
-    if !has_right_number(elements) {
-        return Err(BodyFault::BadValue { name });
-    }
-    creates_of(alloc, elements)
+    creates_of(alloc, array(body, Member::Creates)?)
 }
 
 #[tactic(auto, unfolding(crate::specs::Requests::destroys_member))]
-fn destroys_member(alloc: Global, body: &Value) -> Result<Keys, BodyFault>
+fn destroys(alloc: Global, body: &Value) -> Result<Keys, BodyFault>
     ensures value { Gives result (spec.destroys_member (view body.now)) }
-    ensures texts { IfOk result (All IsWritableKey) }
+    ensures bounds { IfOk result (All IsKey) }
 {
-    let name = Member::Destroys;
-    if !is_nothing(array(body, name)?) {
-        return Err(BodyFault::BadValue { name });
-    }
-    Ok(Keys::new(alloc))
+    destroys_of(alloc, array(body, Member::Destroys)?)
 }
 
-fn begin_of(alloc: Global, body: &Value) -> Result<Request, BodyFault>
+#[tactic(auto, unfolding(crate::specs::Requests::begin_of))]
+fn begin(alloc: Global, body: &Value) -> Result<Request, BodyFault>
     ensures value { Gives result (spec.begin_of (view body.now)) }
-    ensures writable { IfOk result IsWritableRequest }
+    ensures bounds { IfOk result IsRequest }
 {
-    let lease = first_lease(body)?;
-    let creates = creates_member(alloc, body)?;
-    let destroys = destroys_member(alloc, body)?;
+    let lease = lease(body, Member::Lease)?;
+    let creates = creates(alloc, body)?;
+    let destroys = destroys(alloc, body)?;
     let ops = Operations { creates, destroys };
     Ok(Request::Begin { lease, ops })
 }
 
+#[tactic(auto, unfolding(crate::specs::Requests::commit_of))]
+fn commit(body: &Value) -> Result<Request, BodyFault>
+    ensures value { Gives result (spec.commit_of (view body.now)) }
+    ensures bounds { IfOk result IsRequest }
+{
+    let lease = lease(body, Member::Lease)?;
+    Ok(Request::Commit { lease })
+}
+
+#[tactic(auto, unfolding(crate::specs::Requests::rollback_of))]
+fn rollback(body: &Value) -> Result<Request, BodyFault>
+    ensures value { Gives result (spec.rollback_of (view body.now)) }
+    ensures bounds { IfOk result IsRequest }
+{
+    let lease = lease(body, Member::Lease)?;
+    Ok(Request::Rollback { lease })
+}
+
+#[tactic(auto, unfolding(crate::specs::Requests::list_of))]
+fn list(body: &Value) -> Result<Request, BodyFault>
+    ensures value { Gives result (spec.list_of (view body.now)) }
+    ensures bounds { IfOk result IsRequest }
+{
+    let cell = cell(body, Member::Cell)?;
+    let after = after(body)?;
+    Ok(Request::List { cell, after })
+}
+
+#[tactic(auto, unfolding(crate::specs::Requests::range_of))]
+fn range(body: &Value) -> Result<Request, BodyFault>
+    ensures value { Gives result (spec.range_of (view body.now)) }
+    ensures bounds { IfOk result IsRequest }
+{
+    let cell = cell(body, Member::Cell)?;
+    let number = number(body, Member::Number, 1, u64::MAX)?;
+    Ok(Request::Range { cell, number })
+}
+
+#[tactic(auto, unfolding(crate::specs::Requests::claims_of))]
+fn claims(body: &Value) -> Result<Request, BodyFault>
+    ensures value { Gives result (spec.claims_of (view body.now)) }
+    ensures bounds { IfOk result IsRequest }
+{
+    let cell = cell(body, Member::Cell)?;
+    let bucket = bucket(body)?;
+    let first = number(body, Member::First, 0, u64::MAX)?;
+    let last = number(body, Member::Last, first, u64::MAX)?;
+    let after = number(body, Member::After, 0, GREATEST_IDENTIFIER)?;
+    Ok(Request::Claims {
+        cell,
+        bucket,
+        first,
+        last,
+        after,
+    })
+}
+
+fn asked(alloc: Global, ask: &str, body: &Value) -> Result<Request, BodyFault>
+    ensures value { Gives result (spec.asked ask.now (view body.now)) }
+    ensures bounds { IfOk result IsRequest }
+{
+    match ask {
+        "begin" => begin(alloc, body),
+        "commit" => commit(body),
+        "rollback" => rollback(body),
+        "list" => list(body),
+        "range" => range(body),
+        "claims" => claims(body),
+        _ => Err(BodyFault::BadValue { name: Member::Ask }),
+    }
+}
+
+#[tactic(auto, unfolding(crate::specs::Requests::of_object))]
+fn request_of_object(alloc: Global, body: &Value) -> Result<Request, BodyFault>
+    ensures value { Gives result (spec.of_object (view body.now)) }
+    ensures bounds { IfOk result IsRequest }
+{
+    asked(alloc, text(body, Member::Ask)?, body)
+}
+
 fn request_in(alloc: Global, body: &Value) -> Result<Request, BodyFault>
     ensures value { Gives result (spec.of_data (view body.now)) }
-    ensures writable { IfOk result IsWritableRequest }
+    ensures bounds { IfOk result IsRequest }
 {
     if !body.is_object() {
         return Err(BodyFault::NotJson);
     }
-    if text(body, Member::Ask)? != "begin" {
-        return Err(BodyFault::BadValue { name: Member::Ask });
-    }
-    begin_of(alloc, body)
+    request_of_object(alloc, body)
 }
 
 fn request_of_text(alloc: Global, text: &str) -> Result<Request, BodyFault>
     ensures value { Gives result (spec.of_read (read_text text.now)) }
-    ensures writable { IfOk result IsWritableRequest }
+    ensures bounds { IfOk result IsRequest }
 {
     match Value::from_str(alloc, text) {
         Ok(value) => request_in(alloc, &value),
@@ -165,6 +211,7 @@ fn request_of_text(alloc: Global, text: &str) -> Result<Request, BodyFault>
 pub fn read_request(alloc: Global, body: &[u8]) -> Result<Request, BodyFault>
     ensures value { Gives result (spec.request_of body.now) }
     ensures writable { IfOk result IsWritableRequest }
+    ensures bounds { IfOk result IsRequest }
 {
     match str::from_utf8(body) {
         Ok(text) => request_of_text(alloc, text),

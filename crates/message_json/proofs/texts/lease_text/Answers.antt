@@ -1,7 +1,7 @@
 use Rattle.std.proofs.Common.{◌∙◌, ap}
 use Rattle.uuid.specs.Text.{hyphenated_text, lower}
-use Rattle.message_json.specs.Replies.{lease_text}
-use Rattle.message_json.proofs.reply.lease_text.Goals as goal
+use Rattle.message_json.specs.Texts.{lease_text}
+use Rattle.message_json.proofs.texts.lease_text.Goals as goal
 
 pub returns : goal.returns
 unfolding lease_text

@@ -1,0 +1,429 @@
+//! Replies as they are read.
+ghost use Rattle.std.specs.Prelude.{◌≡◌, IfOk};
+ghost use Rattle.std.specs.List.{All};
+ghost use Rattle.claim_types.specs.Leases.{IsLease};
+ghost use Rattle.claim_types.specs.Writable.{IsWritableReply};
+ghost use Rattle.serde_json.specs.View.{view, items_view};
+ghost use Rattle.serde_json.specs.Read.{read as read_text};
+ghost use Rattle.message_json.specs.Bounds.{IsBegunResult, IsClaim, IsDenial, IsRangedResult, IsReply};
+ghost use Rattle.message_json.specs.Reading.{Gives, each};
+ghost use Rattle.message_json.specs.ReplyReading as spec;
+
+use crate::reader::{array, bucket, cell, claim, flag, key_of, lease, lease_named, number, text};
+use crate::{BodyFault, Member};
+use claim_types::{
+    BegunResult, Bucket, ClaimItem, ClaimItems, ClaimPage, CommittedResult, Denial,
+    GREATEST_IDENTIFIER, How, Items, LeaseId, LeaseIds, LeasePage, RangedResult, Reply,
+    RolledBackResult,
+};
+use serde_json::Value;
+use std::alloc::Global;
+
+#[tactic(auto, unfolding(crate::specs::ReplyReading::how_member))]
+fn how(body: &Value) -> Result<How, BodyFault>
+    ensures { result ≡ spec.how_member (view body.now) }
+{
+    let name = Member::How;
+    match text(body, name)? {
+        "committed" => Ok(How::Committed),
+        "rolled_back" => Ok(How::RolledBack),
+        _ => Err(BodyFault::BadValue { name }),
+    }
+}
+
+#[tactic(auto, unfolding(crate::specs::ReplyReading::settled_of))]
+fn settled(body: &Value) -> Result<Denial, BodyFault>
+    ensures value { Gives result (spec.settled_of (view body.now)) }
+    ensures bounds { IfOk result IsDenial }
+{
+    let how = how(body)?;
+    Ok(Denial::Settled { how })
+}
+
+#[tactic(auto, unfolding(crate::specs::ReplyReading::count_of))]
+fn count(body: &Value) -> Result<Denial, BodyFault>
+    ensures value { Gives result (spec.count_of (view body.now)) }
+    ensures bounds { IfOk result IsDenial }
+{
+    let n = number(body, Member::N, 0, u64::MAX)?;
+    Ok(Denial::NoneOrTooMany { n })
+}
+
+#[tactic(auto, unfolding(crate::specs::ReplyReading::twice_of))]
+fn twice(alloc: Global, body: &Value) -> Result<Denial, BodyFault>
+    ensures value { Gives result (spec.twice_of (view body.now)) }
+    ensures bounds { IfOk result IsDenial }
+{
+    let key = key_of(alloc, body)?;
+    Ok(Denial::Twice { key })
+}
+
+#[tactic(auto, unfolding(crate::specs::ReplyReading::foreign_of))]
+fn foreign(body: &Value) -> Result<Denial, BodyFault>
+    ensures value { Gives result (spec.foreign_of (view body.now)) }
+    ensures bounds { IfOk result IsDenial }
+{
+    let id = number(body, Member::Id, 0, u64::MAX)?;
+    Ok(Denial::ForeignId { id })
+}
+
+#[tactic(auto, unfolding(crate::specs::ReplyReading::owned_of))]
+fn owned(alloc: Global, body: &Value) -> Result<Denial, BodyFault>
+    ensures value { Gives result (spec.owned_of (view body.now)) }
+    ensures bounds { IfOk result IsDenial }
+{
+    let key = key_of(alloc, body)?;
+    let cell = cell(body, Member::Owner)?;
+    Ok(Denial::Owned { key, cell })
+}
+
+#[tactic(auto, unfolding(crate::specs::ReplyReading::leased_of))]
+fn leased(alloc: Global, body: &Value) -> Result<Denial, BodyFault>
+    ensures value { Gives result (spec.leased_of (view body.now)) }
+    ensures bounds { IfOk result IsDenial }
+{
+    let key = key_of(alloc, body)?;
+    let lease = lease(body, Member::By)?;
+    Ok(Denial::Leased { key, lease })
+}
+
+#[tactic(auto, unfolding(crate::specs::ReplyReading::not_owned_of))]
+fn not_owned(alloc: Global, body: &Value) -> Result<Denial, BodyFault>
+    ensures value { Gives result (spec.not_owned_of (view body.now)) }
+    ensures bounds { IfOk result IsDenial }
+{
+    let key = key_of(alloc, body)?;
+    Ok(Denial::NotOwned { key })
+}
+
+#[tactic(auto, unfolding(crate::specs::ReplyReading::denial_of))]
+fn denial(alloc: Global, word: &str, body: &Value) -> Result<Denial, BodyFault>
+    ensures value { Gives result (spec.denial_of word.now (view body.now)) }
+    ensures bounds { IfOk result IsDenial }
+{
+    match word {
+        "settled" => settled(body),
+        "other_operations" => Ok(Denial::OtherOperations),
+        "count" => count(body),
+        "twice" => twice(alloc, body),
+        "foreign_id" => foreign(body),
+        "too_many_open" => Ok(Denial::TooManyOpen),
+        "owned" => owned(alloc, body),
+        "leased" => leased(alloc, body),
+        "not_owned" => not_owned(alloc, body),
+        _ => {
+            Err(BodyFault::BadValue {
+                name: Member::Result,
+            })
+        }
+    }
+}
+
+#[tactic(auto, unfolding(crate::specs::ReplyReading::denied_of))]
+fn denied(alloc: Global, word: &str, body: &Value) -> Result<BegunResult, BodyFault>
+    ensures value { Gives result (spec.denied_of word.now (view body.now)) }
+    ensures bounds { IfOk result IsBegunResult }
+{
+    let denial = denial(alloc, word, body)?;
+    Ok(BegunResult::Denied(denial))
+}
+
+#[tactic(auto, unfolding(crate::specs::ReplyReading::begun_member))]
+fn begun_result(alloc: Global, body: &Value) -> Result<BegunResult, BodyFault>
+    ensures value { Gives result (spec.begun_member (view body.now)) }
+    ensures bounds { IfOk result IsBegunResult }
+{
+    let word = text(body, Member::Result)?;
+    if word == "ok" {
+        return Ok(BegunResult::Good);
+    }
+    denied(alloc, word, body)
+}
+
+#[tactic(auto, unfolding(crate::specs::ReplyReading::begun_of))]
+fn begun(alloc: Global, body: &Value) -> Result<Reply, BodyFault>
+    ensures value { Gives result (spec.begun_of (view body.now)) }
+    ensures bounds { IfOk result IsReply }
+{
+    let lease = lease(body, Member::Lease)?;
+    let result = begun_result(alloc, body)?;
+    Ok(Reply::Begun { lease, result })
+}
+
+#[tactic(auto, unfolding(crate::specs::ReplyReading::committed_member))]
+fn committed_result(body: &Value) -> Result<CommittedResult, BodyFault>
+    ensures { result ≡ spec.committed_member (view body.now) }
+{
+    let name = Member::Result;
+    match text(body, name)? {
+        "ok" => Ok(CommittedResult::Good),
+        "unknown" => Ok(CommittedResult::Unknown),
+        "was_rolled_back" => Ok(CommittedResult::WasRolledBack),
+        _ => Err(BodyFault::BadValue { name }),
+    }
+}
+
+#[tactic(auto, unfolding(crate::specs::ReplyReading::committed_of))]
+fn committed(body: &Value) -> Result<Reply, BodyFault>
+    ensures value { Gives result (spec.committed_of (view body.now)) }
+    ensures bounds { IfOk result IsReply }
+{
+    let lease = lease(body, Member::Lease)?;
+    let result = committed_result(body)?;
+    Ok(Reply::Committed { lease, result })
+}
+
+#[tactic(auto, unfolding(crate::specs::ReplyReading::rolled_back_member))]
+fn rolled_back_result(body: &Value) -> Result<RolledBackResult, BodyFault>
+    ensures { result ≡ spec.rolled_back_member (view body.now) }
+{
+    let name = Member::Result;
+    match text(body, name)? {
+        "ok" => Ok(RolledBackResult::Good),
+        "was_committed" => Ok(RolledBackResult::WasCommitted),
+        _ => Err(BodyFault::BadValue { name }),
+    }
+}
+
+#[tactic(auto, unfolding(crate::specs::ReplyReading::rolled_back_of))]
+fn rolled_back(body: &Value) -> Result<Reply, BodyFault>
+    ensures value { Gives result (spec.rolled_back_of (view body.now)) }
+    ensures bounds { IfOk result IsReply }
+{
+    let lease = lease(body, Member::Lease)?;
+    let result = rolled_back_result(body)?;
+    Ok(Reply::RolledBack { lease, result })
+}
+
+#[tactic(auto, unfolding(crate::specs::ReplyReading::lease_element))]
+fn lease_element(value: &Value) -> Result<LeaseId, BodyFault>
+    ensures value { Gives result (spec.lease_element (view value.now)) }
+    ensures bounds { IfOk result IsLease }
+{
+    let name = Member::Leases;
+    let Some(text) = value.as_str() else {
+        return Err(BodyFault::WrongKind { name });
+    };
+    match lease_named(text) {
+        Some(lease) => Ok(lease),
+        None => Err(BodyFault::BadValue { name }),
+    }
+}
+
+fn lease_elements(alloc: Global, values: &[Value]) -> Result<LeaseIds, BodyFault>
+    ensures value { Gives result (each spec.lease_element (items_view values.now)) }
+    ensures bounds { IfOk result (All IsLease) }
+{
+    let mut leases = Vec::with_capacity(alloc, values.len())?;
+    for value in values {
+        let lease = lease_element(value)?;
+        leases.push(lease)?;
+    }
+    Ok(Items::from_vec(leases))
+}
+
+#[tactic(auto, unfolding(crate::specs::ReplyReading::leases_member))]
+fn leases_in(alloc: Global, body: &Value) -> Result<LeaseIds, BodyFault>
+    ensures value { Gives result (spec.leases_member (view body.now)) }
+    ensures bounds { IfOk result (All IsLease) }
+{
+    lease_elements(alloc, array(body, Member::Leases)?)
+}
+
+#[tactic(auto, unfolding(crate::specs::ReplyReading::leases_of))]
+fn leases(alloc: Global, body: &Value) -> Result<Reply, BodyFault>
+    ensures value { Gives result (spec.leases_of (view body.now)) }
+    ensures bounds { IfOk result IsReply }
+{
+    let cell = cell(body, Member::Cell)?;
+    let leases = leases_in(alloc, body)?;
+    let more = flag(body, Member::More)?;
+    let page = LeasePage { leases, more };
+    Ok(Reply::Leases { cell, page })
+}
+
+#[tactic(auto, unfolding(crate::specs::ReplyReading::given_of))]
+fn given(body: &Value) -> Result<RangedResult, BodyFault>
+    ensures value { Gives result (spec.given_of (view body.now)) }
+    ensures bounds { IfOk result IsRangedResult }
+{
+    let low = number(body, Member::Low, 1, GREATEST_IDENTIFIER)?;
+    let high = number(body, Member::High, low, GREATEST_IDENTIFIER)?;
+    Ok(RangedResult::Good { low, high })
+}
+
+#[tactic(auto, unfolding(crate::specs::ReplyReading::too_far_of))]
+fn too_far(body: &Value) -> Result<RangedResult, BodyFault>
+    ensures value { Gives result (spec.too_far_of (view body.now)) }
+    ensures bounds { IfOk result IsRangedResult }
+{
+    let next = number(body, Member::Next, 1, u64::MAX)?;
+    Ok(RangedResult::TooFar { next })
+}
+
+#[tactic(auto, unfolding(crate::specs::ReplyReading::exhausted_of))]
+fn exhausted(body: &Value) -> Result<RangedResult, BodyFault>
+    ensures value { Gives result (spec.exhausted_of (view body.now)) }
+    ensures bounds { IfOk result IsRangedResult }
+{
+    let last = number(body, Member::Last, 0, GREATEST_IDENTIFIER)?;
+    Ok(RangedResult::Exhausted { last })
+}
+
+#[tactic(auto, unfolding(crate::specs::ReplyReading::ranged_member))]
+fn ranged_result(body: &Value) -> Result<RangedResult, BodyFault>
+    ensures value { Gives result (spec.ranged_member (view body.now)) }
+    ensures bounds { IfOk result IsRangedResult }
+{
+    let name = Member::Result;
+    match text(body, name)? {
+        "ok" => given(body),
+        "unknown_cell" => Ok(RangedResult::UnknownCell),
+        "too_far" => too_far(body),
+        "exhausted" => exhausted(body),
+        _ => Err(BodyFault::BadValue { name }),
+    }
+}
+
+#[tactic(auto, unfolding(crate::specs::ReplyReading::ranged_of))]
+fn ranged(body: &Value) -> Result<Reply, BodyFault>
+    ensures value { Gives result (spec.ranged_of (view body.now)) }
+    ensures bounds { IfOk result IsReply }
+{
+    let cell = cell(body, Member::Cell)?;
+    let number = number(body, Member::Number, 1, u64::MAX)?;
+    let result = ranged_result(body)?;
+    Ok(Reply::Ranged {
+        cell,
+        number,
+        result,
+    })
+}
+
+#[tactic(auto, unfolding(crate::specs::ReplyReading::claim_element))]
+fn claim_element(alloc: Global, value: &Value, bucket: Bucket) -> Result<ClaimItem, BodyFault>
+    ensures value { Gives result (spec.claim_element bucket (view value.now)) }
+    ensures bounds { IfOk result (IsClaim bucket) }
+{
+    let name = Member::Items;
+    if !value.is_object() {
+        return Err(BodyFault::WrongKind { name });
+    }
+    claim(alloc, value, bucket)
+}
+
+fn claim_elements(alloc: Global, values: &[Value], bucket: Bucket) -> Result<ClaimItems, BodyFault>
+    ensures value { Gives result (each (spec.claim_element bucket) (items_view values.now)) }
+    ensures bounds { IfOk result (All (IsClaim bucket)) }
+{
+    let mut claims = Vec::with_capacity(alloc, values.len())?;
+    for value in values {
+        let claim = claim_element(alloc, value, bucket)?;
+        claims.push(claim)?;
+    }
+    Ok(Items::from_vec(claims))
+}
+
+#[tactic(auto, unfolding(crate::specs::ReplyReading::items_member))]
+fn items(alloc: Global, body: &Value, bucket: Bucket) -> Result<ClaimItems, BodyFault>
+    ensures value { Gives result (spec.items_member bucket (view body.now)) }
+    ensures bounds { IfOk result (All (IsClaim bucket)) }
+{
+    claim_elements(alloc, array(body, Member::Items)?, bucket)
+}
+
+#[tactic(auto, unfolding(crate::specs::ReplyReading::claims_of))]
+fn claims(alloc: Global, body: &Value) -> Result<Reply, BodyFault>
+    ensures value { Gives result (spec.claims_of (view body.now)) }
+    ensures bounds { IfOk result IsReply }
+{
+    let cell = cell(body, Member::Cell)?;
+    let bucket = bucket(body)?;
+    let first = number(body, Member::First, 0, u64::MAX)?;
+    let last = number(body, Member::Last, first, u64::MAX)?;
+    let after = number(body, Member::After, 0, GREATEST_IDENTIFIER)?;
+    let items = items(alloc, body, bucket)?;
+    let more = flag(body, Member::More)?;
+    Ok(Reply::Claims {
+        cell,
+        bucket,
+        first,
+        last,
+        after,
+        page: ClaimPage { items, more },
+    })
+}
+
+#[tactic(auto, unfolding(crate::specs::ReplyReading::no_cell_of))]
+fn no_cell(body: &Value) -> Result<Reply, BodyFault>
+    ensures value { Gives result (spec.no_cell_of (view body.now)) }
+    ensures bounds { IfOk result IsReply }
+{
+    let cell = cell(body, Member::Cell)?;
+    Ok(Reply::NoCell { cell })
+}
+
+fn replied(alloc: Global, word: &str, body: &Value) -> Result<Reply, BodyFault>
+    ensures value { Gives result (spec.replied word.now (view body.now)) }
+    ensures bounds { IfOk result IsReply }
+{
+    match word {
+        "begun" => begun(alloc, body),
+        "committed" => committed(body),
+        "rolled_back" => rolled_back(body),
+        "leases" => leases(alloc, body),
+        "ranged" => ranged(body),
+        "claims" => claims(alloc, body),
+        "no_cell" => no_cell(body),
+        _ => {
+            Err(BodyFault::BadValue {
+                name: Member::Reply,
+            })
+        }
+    }
+}
+
+#[tactic(auto, unfolding(crate::specs::ReplyReading::of_object))]
+fn reply_of_object(alloc: Global, body: &Value) -> Result<Reply, BodyFault>
+    ensures value { Gives result (spec.of_object (view body.now)) }
+    ensures bounds { IfOk result IsReply }
+{
+    replied(alloc, text(body, Member::Reply)?, body)
+}
+
+fn reply_in(alloc: Global, body: &Value) -> Result<Reply, BodyFault>
+    ensures value { Gives result (spec.of_data (view body.now)) }
+    ensures bounds { IfOk result IsReply }
+{
+    if !body.is_object() {
+        return Err(BodyFault::NotJson);
+    }
+    reply_of_object(alloc, body)
+}
+
+fn reply_of_text(alloc: Global, text: &str) -> Result<Reply, BodyFault>
+    ensures value { Gives result (spec.of_read (read_text text.now)) }
+    ensures bounds { IfOk result IsReply }
+{
+    match Value::from_str(alloc, text) {
+        Ok(value) => reply_in(alloc, &value),
+        Err(error) => {
+            if error.is_memory() {
+                return Err(BodyFault::Memory);
+            }
+            Err(BodyFault::NotJson)
+        }
+    }
+}
+
+/// The reply that a body is, or the first fault in the order of the members.
+pub fn read_reply(alloc: Global, body: &[u8]) -> Result<Reply, BodyFault>
+    ensures value { Gives result (spec.reply_of body.now) }
+    ensures writable { IfOk result IsWritableReply }
+    ensures bounds { IfOk result IsReply }
+{
+    match str::from_utf8(body) {
+        Ok(text) => reply_of_text(alloc, text),
+        Err(_) => Err(BodyFault::NotJson),
+    }
+}

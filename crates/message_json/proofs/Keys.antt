@@ -8,7 +8,7 @@ use Rattle.claim_types.specs.declared.key.ClaimKey.{ClaimKey}
 use Rattle.claim_types.specs.declared.key.KeyFault.{KeyFault}
 use Rattle.claim_types.specs.declared.key.KeyFault.TheVariants.{Empty, TooLong, Reserved}
 use Rattle.claim_types.specs.declared.limits.TheConstants.{KEY_BYTES}
-use Rattle.claim_types.specs.Keys.{key_of, lowered_key, after_bytes, after_parts, has_byte, is_reserved, first_bad, parts_of}
+use Rattle.claim_types.specs.Keys.{key_of, lowered_key, after_bytes, after_parts, is_in_alphabet, is_reserved, first_bad, parts_of}
 
 abbrev Keeps : Bucket → List ℕ → ClaimKey → Type 0
 Keeps bucket value key = (key.bucket ≡ bucket) × (key.value ≡ value)
@@ -44,7 +44,7 @@ module _ (bucket : Bucket) (text : List ℕ) (key : ClaimKey) (read : key_of buc
   kept : Keeps bucket (map to_ascii_lowercase text) key
   kept =
       let small = map to_ascii_lowercase text in
-      by_bytes bucket small (position (λ b. not (has_byte bucket b)) small) key (passed (length text == 0) (nat_lt KEY_BYTES (length text)) (lowered_key bucket small) key read)
+      by_bytes bucket small (position (λ b. not (is_in_alphabet bucket b)) small) key (passed (length text == 0) (nat_lt KEY_BYTES (length text)) (lowered_key bucket small) key read)
 
   pub key_of-bucket : key.bucket ≡ bucket
   key_of-bucket = kept.0

@@ -1,5 +1,5 @@
 -- What a commit of a service comes to.
-use Rattle.std.proofs.Common.{◌≡◌, Bool, List, Option, Some, None, Result, Ok, Err, ◌-◌, cond, refl, sym, ◌∙◌, ap}
+use Rattle.std.proofs.Common.{◌≡◌, Bool, List, Option, Some, None, Result, Ok, Err, ◌-◌, cond, sym, ◌∙◌, ap}
 use Rattle.claim_types.proofs.Ordered.{leases_total}
 use Rattle.std.specs.FinMap as map
 use Rattle.std.specs.FinSet as set

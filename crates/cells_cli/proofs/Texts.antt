@@ -1,5 +1,5 @@
 -- What was read of a text into a buffer.
-use Rattle.std.proofs.Common.{◌≡◌, ℕ, ◌+◌, ◌<◌, ◌≤◌, List, [], ◌++◌, length, take, sym, ap, ◌∙◌, arith, length-append, length-take-le, take-take}
+use Rattle.std.proofs.Common.{◌≡◌, ℕ, ◌<◌, ◌≤◌, List, [], ◌++◌, length, take, sym, ap, ◌∙◌, arith, length-append, length-take-le, take-take}
 use Rattle.std.proofs.lemmas.List.{append-nil, take-append-le}
 
 module _ (end limit : ℕ) (buffer left whole : List ℕ) (read : take end buffer ++ left ≡ whole) where

@@ -1,5 +1,5 @@
 -- What replay answers to the lines of its input, and its report.
-use Rattle.std.specs.Prelude.{◌≡◌, ℕ, ◌-◌, List, [], ◌∷◌, ◌++◌, take, codes, Result, Ok, Err}
+use Rattle.std.specs.Prelude.{◌≡◌, ℕ, ◌-◌, List, [], ◌∷◌, ◌++◌, take, Result, Ok, Err}
 use Rattle.claim_types.specs.declared.message.Request.{Request}
 use Rattle.message_json.specs.declared.fault.BodyFault.{BodyFault}
 use Rattle.message_json.specs.Requests.{request_of}

@@ -1,5 +1,5 @@
 -- The claim map of a service in memory.
-use Rattle.std.specs.Prelude.{◌≡◌, ℕ, List, [], ◌∷◌, codes, Option, Some, None, IsTrue, is_some, Result, Ok, Err}
+use Rattle.std.specs.Prelude.{◌≡◌, ℕ, [], ◌∷◌, codes, Option, Some, None, IsTrue, is_some, Result, Ok, Err}
 use Rattle.cells_base.specs.declared.memory.NoMemory.{NoMemory}
 use Rattle.claim_types.specs.declared.cell.Range.{Range}
 use Rattle.claim_types.specs.declared.cell.Cell.{Cell}

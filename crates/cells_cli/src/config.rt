@@ -7,9 +7,9 @@ ghost use Rattle.claim_map.specs.Writable.{IsWritable};
 ghost use Rattle.cells_cli.specs.Service.{map_of};
 ghost use Rattle.cells_cli.specs.declared.config.ConfigFault.TheVariants.{Read as ReadFailed, Memory as NoRoom};
 
-use crate::lines::read_behind;
-use crate::command::Command;
 use crate::Service;
+use crate::command::Command;
+use crate::lines::read_behind;
 use cell_registry::Registry;
 use cells_base::NoMemory;
 use cells_edge::{Source, SourceFailed};

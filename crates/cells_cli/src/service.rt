@@ -95,9 +95,8 @@ fn cell_asked(request: &Request) -> Option<u16>
     ensures { result ≡ cell_asked request.now }
 {
     match request {
-        Request::Begin { lease, .. }
-        | Request::Commit { lease }
-        | Request::Rollback { lease } => Some(lease.cell),
+        Request::Begin { lease, .. } | Request::Commit { lease } | Request::Rollback { lease } =>
+            Some(lease.cell),
         Request::List { cell, .. } | Request::Claims { cell, .. } => Some(*cell),
         Request::Range { .. } => None,
     }
@@ -126,12 +125,7 @@ impl Service {
         Ok(service)
     }
 
-    fn begin(
-        &mut self,
-        alloc: Global,
-        lease: LeaseId,
-        ops: Operations,
-    ) -> Result<Reply, NoMemory>
+    fn begin(&mut self, alloc: Global, lease: LeaseId, ops: Operations) -> Result<Reply, NoMemory>
         ensures reply { Answers (begin_due lease ops (verdict_of (leases_of (map_of self.old)) (map_of self.old).given lease ops)) (map_of self.old) result (map_of self.new) }
         ensures registry { self.new.registry ≡ self.old.registry }
     {

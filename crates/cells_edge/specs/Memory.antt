@@ -1,5 +1,5 @@
 -- What a source and a sink in memory hold, and what one call makes of it.
-use Rattle.std.specs.Prelude.{◌≡◌, ℕ, zero, suc, ◌+◌, ◌-◌, ◌^◌, min, Bool, true, false, List, ◌++◌, length, take, drop, Option, Some, None}
+use Rattle.std.specs.Prelude.{ℕ, zero, suc, ◌+◌, ◌-◌, ◌^◌, min, Bool, true, false, List, ◌++◌, length, take, drop, Option, Some, None}
 
 -- the bytes left, the most bytes of one read, how many reads pass before one fails, and the count of faults
 pub record Reading : Type 0 where

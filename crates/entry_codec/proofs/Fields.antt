@@ -10,7 +10,7 @@ use Rattle.std.proofs.lemmas.Option.{cond_some}
 use Rattle.cells_base.proofs.Maps.{and_split}
 use Rattle.claim_types.proofs.Numbers.{numbered_bucket-number, number_of_bucket, numbered_kind-number, number_of_kind}
 use Rattle.claim_types.specs.Bounds.{IsIdentifier, IsCell, IsSubjectKind, AreEnds}
-use Rattle.claim_types.specs.Keys.{key_of, lowered_key, after_bytes, after_parts, is_reserved, first_bad, parts_of, has_byte}
+use Rattle.claim_types.specs.Keys.{key_of, lowered_key, after_bytes, after_parts, is_reserved, first_bad, parts_of, is_in_alphabet}
 use Rattle.std.specs.Char.{to_ascii_lowercase}
 use Rattle.std.specs.Prelude.{position, not}
 use Rattle.claim_types.specs.declared.key.KeyFault.TheVariants.{Empty, TooLong, Reserved}
@@ -166,7 +166,7 @@ of_bucket bucket text =
     let small = map to_ascii_lowercase text in
     let read = lowered_key bucket small in
     by_test bucket (eqb (length text) 0) (Err Empty) (cond (ltb 255 (length text)) (Err TooLong) read) tt
-    (by_test bucket (ltb 255 (length text)) (Err TooLong) read tt (by_bytes bucket small (position (λ b. not (has_byte bucket b)) small)))
+    (by_test bucket (ltb 255 (length text)) (Err TooLong) read tt (by_bytes bucket small (position (λ b. not (is_in_alphabet bucket b)) small)))
 
 -- a text that gives a key has at most 255 bytes
 not_short : (b : Bool) (fault : KeyFault) (x : Result ClaimKey KeyFault) (key : ClaimKey) → cond b (Err fault) x ≡ Ok key → (b ≡ false) × (x ≡ Ok key)

@@ -3,11 +3,9 @@ use Rattle.std.proofs.Common.{◌≡◌, ℕ, zero, suc, ◌+◌, ◌<◌, ◌�
 use Rattle.std.specs.declared.cmp.Ordering.{Ordering}
 use Rattle.std.specs.declared.cmp.Ordering.TheVariants.{Less, Equal, Greater}
 use Rattle.std.specs.Ordering.{is_eq, nat_cmp, ordering_then}
-use Rattle.std.specs.Cmp.{IsTotalOrder}
-use Rattle.std.specs.FinMap.{IsAntisymmetric, nat_cmp-IsAntisymmetric, entries, values, from_entries, from_entries_push, entries-insert, entries-from_sorted}
+use Rattle.std.specs.FinMap.{entries, values, from_entries, from_entries_push, entries-insert, entries-from_sorted}
 use Rattle.std.specs.FinMap as fin
 use Rattle.std.specs.FinMap.Entries.{find, put}
-use Rattle.std.proofs.lemmas.Cmp.{nat_cmp_total, then_total, on_total}
 use Rattle.std.proofs.lemmas.Float.{T_from_true}
 use Rattle.std.proofs.lemmas.List.{map-append, take_more, take_all, take-map, append-nil}
 use Rattle.std.proofs.lemmas.List.Elements.{filter-append}
@@ -15,7 +13,7 @@ use Rattle.claim_types.specs.Order.{key_cmp}
 use Rattle.claim_types.specs.declared.key.ClaimKey.{ClaimKey}
 use Rattle.claim_types.specs.declared.lease.Holding.{Holding}
 use Rattle.claim_types.specs.declared.page.ClaimItem.{ClaimItem}
-use Rattle.claim_types.proofs.Ordered.{keys_total, keys_exact, both_equal}
+use Rattle.claim_types.proofs.Ordered.{keys_total, keys_exact}
 use Rattle.claim_map.specs.Pages.{place_cmp, placed}
 use Rattle.claim_map.proofs.Places.{places_total, places_exact}
 use Rattle.lease_core.specs.declared.items.HeldItem.{HeldItem}

@@ -1,4 +1,4 @@
-use Rattle.std.proofs.Common.{◌≡◌, ◌<◌, length, take, ◌∙◌, arith}
+use Rattle.std.proofs.Common.{◌<◌, length, ◌∙◌, arith}
 use Rattle.cells_cli.specs.declared.config.TheConstants.{CONFIG_BYTES}
 use Rattle.cells_cli.proofs.Texts.{is_long, is_whole, front_kept}
 use Rattle.cells_cli.proofs.config.read_text.Goals as goal

@@ -1,9 +1,9 @@
-use Rattle.std.proofs.Common.{◌≡◌, ◌+◌, IsTrue, List, ℕ, ◌∷◌, ◌++◌, drop, sym, ◌∙◌, ap, subst, arith}
+use Rattle.std.proofs.Common.{◌≡◌, IsTrue, List, ℕ, ◌∷◌, ◌++◌, sym, ◌∙◌, ap, subst, arith}
 use Rattle.cells_edge.specs.Edge.{IsPrefix}
 use Rattle.claim_map.specs.Registry.{Registry}
 use Rattle.cells_cli.specs.Replay.{line_answer, after_line}
 use Rattle.std.proofs.lemmas.Result.{err_from_is_err_and}
-use Rattle.cells_cli.specs.Lines.{lines_of, first_refused}
+use Rattle.cells_cli.specs.Lines.{lines_of}
 use Rattle.cells_cli.specs.Service.{map_of}
 use Rattle.cells_cli.proofs.Answered.{dropped, map_more, done_more, stopped, all_done, next_is, counted_is}
 use Rattle.cells_cli.proofs.replay.answer_lines.Goals as goal

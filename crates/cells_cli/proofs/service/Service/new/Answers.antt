@@ -1,5 +1,4 @@
-use Rattle.std.proofs.Common.{sym, subst, [], ap}
-use Rattle.claim_map.specs.State.{ClaimMap, LeaseState, leases_of, no_leases}
+use Rattle.std.proofs.Common.{sym, subst, []}
 use Rattle.claim_map.specs.Writable.{IsWritable}
 use Rattle.claim_map.proofs.Written.{opening_written}
 use Rattle.cells_cli.proofs.service.Service.new.Goals as goal

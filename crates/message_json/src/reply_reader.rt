@@ -358,7 +358,9 @@ fn reply_of_text(alloc: Global, text: &str) -> Result<Reply, BodyFault>
     }
 }
 
-/// The reply that a body is, or the first fault in the order of the members.
+/// The reply that a body is: a JSON object in UTF-8 whose `reply` names one of the replies, with
+/// the members that `specs/ReplyReading` gives it. Otherwise the first fault in the order of these
+/// members. The claims of a page have the page's bucket.
 pub fn read_reply(alloc: Global, body: &[u8]) -> Result<Reply, BodyFault>
     ensures value { Gives result (spec.reply_of body.now) }
     ensures writable { IfOk result IsWritableReply }

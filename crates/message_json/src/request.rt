@@ -195,7 +195,9 @@ fn request_of_text(alloc: Global, text: &str) -> Result<Request, BodyFault>
     }
 }
 
-/// The request that a body is, or the first fault in the order of the members.
+/// The request that a body is: a JSON object in UTF-8 whose `ask` names one of the requests, with
+/// the members that `specs/Requests` gives it. Otherwise the first fault in the order of these
+/// members. How many operations a begin has is left to the service to judge.
 pub fn read_request(alloc: Global, body: &[u8]) -> Result<Request, BodyFault>
     ensures value { Gives result (spec.request_of body.now) }
     ensures writable { IfOk result IsWritableRequest }

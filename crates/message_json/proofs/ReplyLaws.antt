@@ -28,7 +28,7 @@ use Rattle.message_json.specs.declared.member.Member.TheVariants as member
 use Rattle.message_json.specs.Bounds.{IsClaim, AreRows, IsRangeNumber, IsDenial, IsBegunResult, IsRangedResult, IsReply}
 use Rattle.message_json.specs.Reading.{greatest_number, text_member, lease_member, key_members, claim_members}
 use Rattle.message_json.specs.Replies.{denied_data, begun_data, lease_item, claim_item, reply_data}
-use Rattle.message_json.specs.ReplyReading.{how_member, settled_of, count_of, twice_of, foreign_of, owned_of, leased_of, not_owned_of, denial_of, denied_of, begun_member, begun_of, committed_member, committed_of, rolled_back_member, rolled_back_of, lease_element, leases_member, leases_of, given_of, too_far_of, exhausted_of, ranged_member, ranged_of, claim_element, items_member, claims_of, no_cell_of, of_object, of_data}
+use Rattle.message_json.specs.ReplyReading.{how_member, keyed_denial_of, settled_of, count_of, twice_of, foreign_of, owned_of, leased_of, not_owned_of, denial_of, denied_of, begun_member, begun_of, committed_member, committed_of, rolled_back_member, rolled_back_of, lease_element, leases_member, leases_of, given_of, too_far_of, exhausted_of, ranged_member, ranged_of, claim_element, items_member, claims_of, no_cell_of, of_object, of_data}
 use Rattle.message_json.specs.Texts.{lease_text}
 use Rattle.message_json.proofs.MemberLaws.{lease_again, text_back, number_back, flag_back, array_back, lease_back, bucket_back, subject_kind_back, table_back, key_back}
 use Rattle.message_json.proofs.RequestLaws.{each_back}
@@ -47,7 +47,7 @@ word_of (NotOwned key) = codes "not_owned"
 
 module _ (lease : List ℕ) where
   denial_back : (denial : Denial) → IsDenial denial → denial_of (word_of denial) (denied_data lease denial) ≡ Ok denial
-  unfolding denial_of settled_of how_member count_of twice_of foreign_of owned_of leased_of not_owned_of key_members word_of
+  unfolding denial_of keyed_denial_of how_member key_members word_of
   denial_back (Settled how.Committed) is = rw (text_back member.How (denied_data lease (Settled how.Committed)) (codes "committed") refl) refl
   denial_back (Settled how.RolledBack) is = rw (text_back member.How (denied_data lease (Settled how.RolledBack)) (codes "rolled_back") refl) refl
   denial_back OtherOperations is = refl
@@ -68,7 +68,6 @@ module _ (lease : List ℕ) where
       rw (bucket_back body key.bucket refl, key_back body key is refl) refl
 
   denied_back : (denial : Denial) → IsDenial denial → denied_of (word_of denial) (denied_data lease denial) ≡ Ok (Denied denial)
-  unfolding denied_of
   denied_back denial is = rw (denial_back denial is) refl
 
   result_back : (result : BegunResult) → IsBegunResult result → begun_member (begun_data lease result) ≡ Ok result
@@ -138,7 +137,7 @@ leases_back cell page is_cell are =
     ) refl
 
 ranged_back : (cell n : ℕ) (result : RangedResult) → IsCell cell → IsRangeNumber n → IsRangedResult result → ranged_of (reply_data (Ranged cell n result)) ≡ Ok (Ranged cell n result)
-unfolding ranged_of ranged_member given_of too_far_of exhausted_of
+unfolding ranged_of ranged_member
 ranged_back cell n (ranged.Good low high) is_cell is_number is =
     let body = reply_data (Ranged cell n (ranged.Good low high)) in
     rw (

@@ -60,11 +60,9 @@ begin_back lease ops is are =
     ) refl
 
 commit_back : (lease : LeaseId) → IsLease lease → commit_of (request_data (Commit lease)) ≡ Ok (Commit lease)
-unfolding commit_of
 commit_back lease is = rw (lease_back Lease (request_data (Commit lease)) lease is refl) refl
 
 rollback_back : (lease : LeaseId) → IsLease lease → rollback_of (request_data (Rollback lease)) ≡ Ok (Rollback lease)
-unfolding rollback_of
 rollback_back lease is = rw (lease_back Lease (request_data (Rollback lease)) lease is refl) refl
 
 list_back : (cell : ℕ) (after : Option LeaseId) → IsCell cell → IsAfter after → list_of (request_data (ListRequest cell after)) ≡ Ok (ListRequest cell after)

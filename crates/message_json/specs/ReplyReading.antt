@@ -38,47 +38,51 @@ unfoldable pub how_member : Data → Result How BodyFault
 how_member body = text_member member.How body >>= λ word. named_how word
 
 -- why a begin was refused: each word has its own members
-unfoldable pub settled_of : Data → Result Denial BodyFault
+abbrev pub settled_of : Data → Result Denial BodyFault
 settled_of body = how_member body >>= λ ended. Ok (Settled ended)
 
-unfoldable pub count_of : Data → Result Denial BodyFault
+abbrev pub count_of : Data → Result Denial BodyFault
 count_of body = number_member member.N 0 greatest_number body >>= λ n. Ok (NoneOrTooMany n)
 
-unfoldable pub twice_of : Data → Result Denial BodyFault
+abbrev pub twice_of : Data → Result Denial BodyFault
 twice_of body = key_members body >>= λ key. Ok (Twice key)
 
-unfoldable pub foreign_of : Data → Result Denial BodyFault
+abbrev pub foreign_of : Data → Result Denial BodyFault
 foreign_of body = number_member member.Id 0 greatest_number body >>= λ id. Ok (ForeignId id)
 
-unfoldable pub owned_of : Data → Result Denial BodyFault
+abbrev pub owned_of : Data → Result Denial BodyFault
 owned_of body = do
   key ← key_members body
   owner ← cell_named member.Owner body
   Ok (Owned key owner)
 
-unfoldable pub leased_of : Data → Result Denial BodyFault
+abbrev pub leased_of : Data → Result Denial BodyFault
 leased_of body = do
   key ← key_members body
   by ← lease_member member.By body
   Ok (Leased key by)
 
-unfoldable pub not_owned_of : Data → Result Denial BodyFault
+abbrev pub not_owned_of : Data → Result Denial BodyFault
 not_owned_of body = key_members body >>= λ key. Ok (NotOwned key)
+
+unfoldable pub keyed_denial_of : List ℕ → Data → Result Denial BodyFault
+keyed_denial_of word body =
+    if bytes_eq word (codes "twice") then twice_of body
+    else if bytes_eq word (codes "owned") then owned_of body
+    else if bytes_eq word (codes "leased") then leased_of body
+    else if bytes_eq word (codes "not_owned") then not_owned_of body
+    else Err (BadValue member.Result)
 
 unfoldable pub denial_of : List ℕ → Data → Result Denial BodyFault
 denial_of word body =
     if bytes_eq word (codes "settled") then settled_of body
     else if bytes_eq word (codes "other_operations") then Ok OtherOperations
     else if bytes_eq word (codes "count") then count_of body
-    else if bytes_eq word (codes "twice") then twice_of body
     else if bytes_eq word (codes "foreign_id") then foreign_of body
     else if bytes_eq word (codes "too_many_open") then Ok TooManyOpen
-    else if bytes_eq word (codes "owned") then owned_of body
-    else if bytes_eq word (codes "leased") then leased_of body
-    else if bytes_eq word (codes "not_owned") then not_owned_of body
-    else Err (BadValue member.Result)
+    else keyed_denial_of word body
 
-unfoldable pub denied_of : List ℕ → Data → Result BegunResult BodyFault
+abbrev pub denied_of : List ℕ → Data → Result BegunResult BodyFault
 denied_of word body = denial_of word body >>= λ denial. Ok (Denied denial)
 
 abbrev pub begun_result : List ℕ → Data → Result BegunResult BodyFault
@@ -140,16 +144,16 @@ leases_of body = do
   Ok (Leases cell (record { leases = leases; more = more }))
 
 -- what became of a request for a range
-unfoldable pub given_of : Data → Result RangedResult BodyFault
+abbrev pub given_of : Data → Result RangedResult BodyFault
 given_of body = do
   low ← number_member member.Low 1 GREATEST_IDENTIFIER body
   high ← number_member member.High low GREATEST_IDENTIFIER body
   Ok (ranged.Good low high)
 
-unfoldable pub too_far_of : Data → Result RangedResult BodyFault
+abbrev pub too_far_of : Data → Result RangedResult BodyFault
 too_far_of body = number_member member.Next 1 greatest_number body >>= λ next. Ok (ranged.TooFar next)
 
-unfoldable pub exhausted_of : Data → Result RangedResult BodyFault
+abbrev pub exhausted_of : Data → Result RangedResult BodyFault
 exhausted_of body = number_member member.Last 0 GREATEST_IDENTIFIER body >>= λ last. Ok (ranged.Exhausted last)
 
 abbrev pub ranged_result : List ℕ → Data → Result RangedResult BodyFault

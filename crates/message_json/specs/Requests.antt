@@ -42,10 +42,10 @@ begin_of body = do
   destroys ← destroys_member body
   Ok (Begin lease (record { creates = creates; destroys = destroys }))
 
-unfoldable pub commit_of : Data → Result Request BodyFault
+abbrev pub commit_of : Data → Result Request BodyFault
 commit_of body = lease_member Lease body >>= λ lease. Ok (Commit lease)
 
-unfoldable pub rollback_of : Data → Result Request BodyFault
+abbrev pub rollback_of : Data → Result Request BodyFault
 rollback_of body = lease_member Lease body >>= λ lease. Ok (Rollback lease)
 
 unfoldable pub list_of : Data → Result Request BodyFault

@@ -33,7 +33,8 @@ fn fault_value(alloc: Global, fault: BodyFault) -> Result<Value, AllocError>
     }
 }
 
-/// The body that names a fault.
+/// The body that names a fault: `not json`, `missing`, `wrong kind`, `bad value` or `memory`, the
+/// middle three with the member's name.
 #[tactic(auto, unfolding(crate::specs::Replies::fault_text))]
 pub fn write_fault(alloc: Global, fault: BodyFault) -> Result<Text, NoMemory>
     ensures { IfOk result (λ text. text ≡ spec.fault_text fault) }

@@ -26,6 +26,8 @@ mod reply;
 mod reply_reader;
 mod request;
 mod request_writer;
+#[cfg(test)]
+mod tests;
 mod texts;
 
 pub use fault::BodyFault;

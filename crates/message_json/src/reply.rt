@@ -259,7 +259,7 @@ fn claim_values(alloc: Global, claims: &[ClaimItem]) -> Result<Vec<Value>, Alloc
     Ok(values)
 }
 
-/// What a request for claims names.
+// What a request for claims names.
 #[derive(Clone, Copy)]
 struct Asked {
     cell: u16,
@@ -341,7 +341,8 @@ fn reply_value(alloc: Global, reply: &Reply) -> Result<Value, AllocError>
     }
 }
 
-/// The body of a reply.
+/// The body of a reply: the compact JSON object that `specs/Replies` states. A reply within the bounds
+/// of `specs/Bounds` is read from it again.
 #[tactic(auto, unfolding(crate::specs::Replies::reply_text))]
 pub fn write_reply(alloc: Global, reply: &Reply) -> Result<Text, NoMemory>
     requires { IsWritableReply reply.now }

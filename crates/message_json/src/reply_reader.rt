@@ -31,86 +31,30 @@ fn how(body: &Value) -> Result<How, BodyFault>
     }
 }
 
-#[tactic(auto, unfolding(crate::specs::ReplyReading::settled_of))]
-fn settled(body: &Value) -> Result<Denial, BodyFault>
-    ensures value { Gives result (spec.settled_of (view body.now)) }
-    ensures bounds { IfOk result IsDenial }
-{
-    let how = how(body)?;
-    Ok(Denial::Settled { how })
-}
-
-#[tactic(auto, unfolding(crate::specs::ReplyReading::count_of))]
-fn count(body: &Value) -> Result<Denial, BodyFault>
-    ensures value { Gives result (spec.count_of (view body.now)) }
-    ensures bounds { IfOk result IsDenial }
-{
-    let n = number(body, Member::N, 0, u64::MAX)?;
-    Ok(Denial::NoneOrTooMany { n })
-}
-
-#[tactic(auto, unfolding(crate::specs::ReplyReading::twice_of))]
-fn twice(alloc: Global, body: &Value) -> Result<Denial, BodyFault>
-    ensures value { Gives result (spec.twice_of (view body.now)) }
-    ensures bounds { IfOk result IsDenial }
-{
-    let key = key_of(alloc, body)?;
-    Ok(Denial::Twice { key })
-}
-
-#[tactic(auto, unfolding(crate::specs::ReplyReading::foreign_of))]
-fn foreign(body: &Value) -> Result<Denial, BodyFault>
-    ensures value { Gives result (spec.foreign_of (view body.now)) }
-    ensures bounds { IfOk result IsDenial }
-{
-    let id = number(body, Member::Id, 0, u64::MAX)?;
-    Ok(Denial::ForeignId { id })
-}
-
-#[tactic(auto, unfolding(crate::specs::ReplyReading::owned_of))]
-fn owned(alloc: Global, body: &Value) -> Result<Denial, BodyFault>
-    ensures value { Gives result (spec.owned_of (view body.now)) }
-    ensures bounds { IfOk result IsDenial }
-{
-    let key = key_of(alloc, body)?;
-    let cell = cell(body, Member::Owner)?;
-    Ok(Denial::Owned { key, cell })
-}
-
-#[tactic(auto, unfolding(crate::specs::ReplyReading::leased_of))]
-fn leased(alloc: Global, body: &Value) -> Result<Denial, BodyFault>
-    ensures value { Gives result (spec.leased_of (view body.now)) }
-    ensures bounds { IfOk result IsDenial }
-{
-    let key = key_of(alloc, body)?;
-    let lease = lease(body, Member::By)?;
-    Ok(Denial::Leased { key, lease })
-}
-
-#[tactic(auto, unfolding(crate::specs::ReplyReading::not_owned_of))]
-fn not_owned(alloc: Global, body: &Value) -> Result<Denial, BodyFault>
-    ensures value { Gives result (spec.not_owned_of (view body.now)) }
-    ensures bounds { IfOk result IsDenial }
-{
-    let key = key_of(alloc, body)?;
-    Ok(Denial::NotOwned { key })
-}
-
-#[tactic(auto, unfolding(crate::specs::ReplyReading::denial_of))]
-fn denial(alloc: Global, word: &str, body: &Value) -> Result<Denial, BodyFault>
-    ensures value { Gives result (spec.denial_of word.now (view body.now)) }
+#[tactic(auto, unfolding(crate::specs::ReplyReading::keyed_denial_of))]
+fn keyed_denial(alloc: Global, word: &str, body: &Value) -> Result<Denial, BodyFault>
+    ensures value { Gives result (spec.keyed_denial_of word.now (view body.now)) }
     ensures bounds { IfOk result IsDenial }
 {
     match word {
-        "settled" => settled(body),
-        "other_operations" => Ok(Denial::OtherOperations),
-        "count" => count(body),
-        "twice" => twice(alloc, body),
-        "foreign_id" => foreign(body),
-        "too_many_open" => Ok(Denial::TooManyOpen),
-        "owned" => owned(alloc, body),
-        "leased" => leased(alloc, body),
-        "not_owned" => not_owned(alloc, body),
+        "twice" => {
+            let key = key_of(alloc, body)?;
+            Ok(Denial::Twice { key })
+        }
+        "owned" => {
+            let key = key_of(alloc, body)?;
+            let cell = cell(body, Member::Owner)?;
+            Ok(Denial::Owned { key, cell })
+        }
+        "leased" => {
+            let key = key_of(alloc, body)?;
+            let lease = lease(body, Member::By)?;
+            Ok(Denial::Leased { key, lease })
+        }
+        "not_owned" => {
+            let key = key_of(alloc, body)?;
+            Ok(Denial::NotOwned { key })
+        }
         _ => {
             Err(BodyFault::BadValue {
                 name: Member::Result,
@@ -119,13 +63,28 @@ fn denial(alloc: Global, word: &str, body: &Value) -> Result<Denial, BodyFault>
     }
 }
 
-#[tactic(auto, unfolding(crate::specs::ReplyReading::denied_of))]
-fn denied(alloc: Global, word: &str, body: &Value) -> Result<BegunResult, BodyFault>
-    ensures value { Gives result (spec.denied_of word.now (view body.now)) }
-    ensures bounds { IfOk result IsBegunResult }
+#[tactic(auto, unfolding(crate::specs::ReplyReading::denial_of))]
+fn denial(alloc: Global, word: &str, body: &Value) -> Result<Denial, BodyFault>
+    ensures value { Gives result (spec.denial_of word.now (view body.now)) }
+    ensures bounds { IfOk result IsDenial }
 {
-    let denial = denial(alloc, word, body)?;
-    Ok(BegunResult::Denied(denial))
+    match word {
+        "settled" => {
+            let how = how(body)?;
+            Ok(Denial::Settled { how })
+        }
+        "other_operations" => Ok(Denial::OtherOperations),
+        "count" => {
+            let n = number(body, Member::N, 0, u64::MAX)?;
+            Ok(Denial::NoneOrTooMany { n })
+        }
+        "foreign_id" => {
+            let id = number(body, Member::Id, 0, u64::MAX)?;
+            Ok(Denial::ForeignId { id })
+        }
+        "too_many_open" => Ok(Denial::TooManyOpen),
+        _ => keyed_denial(alloc, word, body),
+    }
 }
 
 #[tactic(auto, unfolding(crate::specs::ReplyReading::begun_member))]
@@ -137,7 +96,8 @@ fn begun_result(alloc: Global, body: &Value) -> Result<BegunResult, BodyFault>
     if word == "ok" {
         return Ok(BegunResult::Good);
     }
-    denied(alloc, word, body)
+    let denial = denial(alloc, word, body)?;
+    Ok(BegunResult::Denied(denial))
 }
 
 #[tactic(auto, unfolding(crate::specs::ReplyReading::begun_of))]
@@ -242,34 +202,6 @@ fn leases(alloc: Global, body: &Value) -> Result<Reply, BodyFault>
     Ok(Reply::Leases { cell, page })
 }
 
-#[tactic(auto, unfolding(crate::specs::ReplyReading::given_of))]
-fn given(body: &Value) -> Result<RangedResult, BodyFault>
-    ensures value { Gives result (spec.given_of (view body.now)) }
-    ensures bounds { IfOk result IsRangedResult }
-{
-    let low = number(body, Member::Low, 1, GREATEST_IDENTIFIER)?;
-    let high = number(body, Member::High, low, GREATEST_IDENTIFIER)?;
-    Ok(RangedResult::Good { low, high })
-}
-
-#[tactic(auto, unfolding(crate::specs::ReplyReading::too_far_of))]
-fn too_far(body: &Value) -> Result<RangedResult, BodyFault>
-    ensures value { Gives result (spec.too_far_of (view body.now)) }
-    ensures bounds { IfOk result IsRangedResult }
-{
-    let next = number(body, Member::Next, 1, u64::MAX)?;
-    Ok(RangedResult::TooFar { next })
-}
-
-#[tactic(auto, unfolding(crate::specs::ReplyReading::exhausted_of))]
-fn exhausted(body: &Value) -> Result<RangedResult, BodyFault>
-    ensures value { Gives result (spec.exhausted_of (view body.now)) }
-    ensures bounds { IfOk result IsRangedResult }
-{
-    let last = number(body, Member::Last, 0, GREATEST_IDENTIFIER)?;
-    Ok(RangedResult::Exhausted { last })
-}
-
 #[tactic(auto, unfolding(crate::specs::ReplyReading::ranged_member))]
 fn ranged_result(body: &Value) -> Result<RangedResult, BodyFault>
     ensures value { Gives result (spec.ranged_member (view body.now)) }
@@ -277,10 +209,20 @@ fn ranged_result(body: &Value) -> Result<RangedResult, BodyFault>
 {
     let name = Member::Result;
     match text(body, name)? {
-        "ok" => given(body),
+        "ok" => {
+            let low = number(body, Member::Low, 1, GREATEST_IDENTIFIER)?;
+            let high = number(body, Member::High, low, GREATEST_IDENTIFIER)?;
+            Ok(RangedResult::Good { low, high })
+        }
         "unknown_cell" => Ok(RangedResult::UnknownCell),
-        "too_far" => too_far(body),
-        "exhausted" => exhausted(body),
+        "too_far" => {
+            let next = number(body, Member::Next, 1, u64::MAX)?;
+            Ok(RangedResult::TooFar { next })
+        }
+        "exhausted" => {
+            let last = number(body, Member::Last, 0, GREATEST_IDENTIFIER)?;
+            Ok(RangedResult::Exhausted { last })
+        }
         _ => Err(BodyFault::BadValue { name }),
     }
 }
@@ -416,7 +358,9 @@ fn reply_of_text(alloc: Global, text: &str) -> Result<Reply, BodyFault>
     }
 }
 
-/// The reply that a body is, or the first fault in the order of the members.
+/// The reply that a body is: a JSON object in UTF-8 whose `reply` names one of the replies, with
+/// the members that `specs/ReplyReading` gives it. Otherwise the first fault in the order of these
+/// members. The claims of a page have the page's bucket.
 pub fn read_reply(alloc: Global, body: &[u8]) -> Result<Reply, BodyFault>
     ensures value { Gives result (spec.reply_of body.now) }
     ensures writable { IfOk result IsWritableReply }

@@ -102,24 +102,6 @@ fn begin(alloc: Global, body: &Value) -> Result<Request, BodyFault>
     Ok(Request::Begin { lease, ops })
 }
 
-#[tactic(auto, unfolding(crate::specs::Requests::commit_of))]
-fn commit(body: &Value) -> Result<Request, BodyFault>
-    ensures value { Gives result (spec.commit_of (view body.now)) }
-    ensures bounds { IfOk result IsRequest }
-{
-    let lease = lease(body, Member::Lease)?;
-    Ok(Request::Commit { lease })
-}
-
-#[tactic(auto, unfolding(crate::specs::Requests::rollback_of))]
-fn rollback(body: &Value) -> Result<Request, BodyFault>
-    ensures value { Gives result (spec.rollback_of (view body.now)) }
-    ensures bounds { IfOk result IsRequest }
-{
-    let lease = lease(body, Member::Lease)?;
-    Ok(Request::Rollback { lease })
-}
-
 #[tactic(auto, unfolding(crate::specs::Requests::list_of))]
 fn list(body: &Value) -> Result<Request, BodyFault>
     ensures value { Gives result (spec.list_of (view body.now)) }
@@ -165,8 +147,14 @@ fn asked(alloc: Global, ask: &str, body: &Value) -> Result<Request, BodyFault>
 {
     match ask {
         "begin" => begin(alloc, body),
-        "commit" => commit(body),
-        "rollback" => rollback(body),
+        "commit" => {
+            let lease = lease(body, Member::Lease)?;
+            Ok(Request::Commit { lease })
+        }
+        "rollback" => {
+            let lease = lease(body, Member::Lease)?;
+            Ok(Request::Rollback { lease })
+        }
         "list" => list(body),
         "range" => range(body),
         "claims" => claims(body),
@@ -207,7 +195,9 @@ fn request_of_text(alloc: Global, text: &str) -> Result<Request, BodyFault>
     }
 }
 
-/// The request that a body is, or the first fault in the order of the members.
+/// The request that a body is: a JSON object in UTF-8 whose `ask` names one of the requests, with
+/// the members that `specs/Requests` gives it. Otherwise the first fault in the order of these
+/// members. How many operations a begin has is left to the service to judge.
 pub fn read_request(alloc: Global, body: &[u8]) -> Result<Request, BodyFault>
     ensures value { Gives result (spec.request_of body.now) }
     ensures writable { IfOk result IsWritableRequest }

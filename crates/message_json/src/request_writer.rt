@@ -162,7 +162,8 @@ fn request_value(alloc: Global, request: &Request) -> Result<Value, AllocError>
     }
 }
 
-/// The body of a request.
+/// The body of a request: the compact JSON object that `specs/RequestTexts` states. A request within
+/// the bounds of `specs/Bounds` is read from it again.
 #[tactic(auto, unfolding(crate::specs::RequestTexts::request_text))]
 pub fn write_request(alloc: Global, request: &Request) -> Result<Text, NoMemory>
     requires { IsWritableRequest request.now }

@@ -19,6 +19,8 @@
 mod copied;
 mod items;
 mod memory;
+#[cfg(test)]
+mod tests;
 mod text;
 
 pub use copied::Copied;

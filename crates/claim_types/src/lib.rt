@@ -12,8 +12,9 @@
 //!
 //! Promised: [`ClaimKey::read`] gives exactly the key, or the first refusal in order, that
 //! `specs/Keys` states for the whole text; [`LeaseId::to_uuid`] and [`LeaseId::from_uuid`] are
-//! exact both ways over the bits that `specs/Leases` states. `specs/Order` has the orders of keys
-//! and leases, with their laws in `proofs/Ordered`. Everything else here is plain data.
+//! exact both ways over the bits that `specs/Leases` states; keys and leases compare as `specs/Order`
+//! states ([`key_order`], [`lease_order`]), with the laws of these orders in `proofs/Ordered`.
+//! Everything else here is plain data.
 #![tactic(auto)]
 
 mod cell;
@@ -24,10 +25,13 @@ mod lease;
 mod limits;
 mod message;
 mod operations;
+mod order;
 mod page;
 mod question;
 mod record;
 mod step;
+#[cfg(test)]
+mod tests;
 mod verdict;
 
 pub use cell::{Cell, Range};
@@ -41,6 +45,7 @@ pub use limits::{
 };
 pub use message::{BegunResult, CommittedResult, RangedResult, Reply, Request, RolledBackResult};
 pub use operations::{Create, Creates, Keys, Operations, Origin, Subject};
+pub use order::{key_order, lease_order};
 pub use page::{ClaimItem, ClaimItems, ClaimPage, LeaseIds, LeasePage};
 pub use question::{Class, Question};
 pub use record::{Change, Kind, Record};

@@ -1,5 +1,5 @@
 -- A refusal names only leases that are open.
-use Rattle.std.proofs.Common.{◌≡◌, ℕ, ◌+◌, Bool, true, false, not, ◌||◌, ◌==◌, nat_lt, nat_le, nat_eq, cond, List, [], ◌∷◌, length, Option, Some, None, option_map, refl, ap, subst}
+use Rattle.std.proofs.Common.{◌≡◌, ℕ, ◌+◌, Bool, true, false, not, ◌||◌, ◌==◌, nat_lt, nat_le, nat_eq, cond, List, [], ◌∷◌, length, Option, Some, None, option_map, refl}
 use Rattle.std.specs.List.{find}
 use Rattle.std.specs.FinMap as map
 use Rattle.claim_types.specs.Order.{lease_cmp, operations_eq}

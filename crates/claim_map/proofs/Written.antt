@@ -1,5 +1,5 @@
 -- What is due to a request that can be written can be written.
-use Rattle.std.proofs.Common.{◌≡◌, ◌⊎◌, inl, inr, ℕ, ◌<◌, ◌≤◌, Bool, true, false, if◌then◌else◌, is_some, List, [], ◌∷◌, ◌++◌, map as maps, filter, length, get_or, Option, Some, None, refl, sym, ap, subst, ◌∙◌}
+use Rattle.std.proofs.Common.{◌≡◌, inl, inr, ℕ, Bool, true, false, if◌then◌else◌, is_some, List, [], ◌∷◌, ◌++◌, map as maps, filter, length, get_or, Option, Some, None, refl, sym, subst, ◌∙◌}
 use Rattle.std.specs.List.{All}
 use Rattle.std.proofs.lemmas.List.{get_or_past, take_at}
 use Rattle.std.proofs.lemmas.List.Elements.{All-nil, All-cons, All-head, All-tail, All-take, All-map, All-filter}
@@ -37,7 +37,7 @@ use Rattle.claim_map.specs.Ranges.{RangeVerdict, unknown_cell, kept, too_far, ex
 use Rattle.claim_map.specs.State.{ClaimMap, LeaseState, leases_of, opening}
 use Rattle.claim_map.specs.Verdict.{verdict_of}
 use Rattle.claim_map.specs.Step.{opened, released, claimed, holding_of, applied, rolled_back, after_any}
-use Rattle.claim_map.specs.Due.{Due, key_at, denial_of, begin_due, commit_due, rollback_due, range_due, told, due}
+use Rattle.claim_map.specs.Due.{Due, denial_of, begin_due, commit_due, rollback_due, range_due, told, due}
 use Rattle.claim_map.specs.Writable.{IsWritable}
 use Rattle.claim_map.proofs.Places.{places_total}
 use Rattle.claim_map.proofs.Refusals.{Names, NamesIn, names_open}

@@ -1,5 +1,5 @@
 -- What the service owes to a request: a step or none, and a reply.
-use Rattle.std.specs.Prelude.{ℕ, if◌then◌else◌, List, [], Option, Some, None, is_some}
+use Rattle.std.specs.Prelude.{ℕ, if◌then◌else◌, [], Option, Some, None, is_some}
 use Rattle.std.specs.FinMap as map
 use Rattle.std.specs.List.{slice_index_or}
 use Rattle.claim_types.specs.Operations.{keys_of}

@@ -1,5 +1,5 @@
 -- The one global claim map.
-use Rattle.std.specs.Prelude.{◌≡◌, ℕ, ◌+◌, Bool, ◌&&◌, nat_eq, nat_le, List, [], filter, refl, Option, unwrap_or}
+use Rattle.std.specs.Prelude.{ℕ, Bool, ◌&&◌, nat_eq, nat_le, List, [], filter, refl, unwrap_or}
 use Rattle.std.specs.List.{list_any}
 use Rattle.std.specs.Ordering.{nat_cmp}
 use Rattle.std.specs.FinMap as map
@@ -11,8 +11,6 @@ use Rattle.claim_types.specs.contracts.lease.LeaseId as lease_type
 use Rattle.claim_types.specs.contracts.lease.Holding as holding_type
 use Rattle.claim_types.specs.contracts.lease.How as how_type
 use Rattle.claim_types.specs.contracts.operations.Operations as operations_type
-use Rattle.claim_types.specs.declared.key.ClaimKey.{ClaimKey}
-use Rattle.claim_types.specs.declared.lease.LeaseId.{LeaseId}
 use Rattle.claim_types.specs.declared.lease.Holding.{Holding}
 use Rattle.claim_types.specs.declared.lease.How.{How}
 use Rattle.claim_types.specs.declared.operations.Operations.{Operations}

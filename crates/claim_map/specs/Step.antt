@@ -2,7 +2,7 @@
 use Rattle.std.specs.Prelude.{ℕ, List, [], ◌∷◌, ◌++◌, Option, Some, None}
 use Rattle.std.specs.FinMap as map
 use Rattle.std.specs.FinSet as set
-use Rattle.claim_types.specs.Order.{key_cmp, lease_cmp}
+use Rattle.claim_types.specs.Order.{key_cmp}
 use Rattle.claim_types.specs.declared.key.ClaimKey.{ClaimKey}
 use Rattle.claim_types.specs.declared.lease.LeaseId.{LeaseId}
 use Rattle.claim_types.specs.declared.lease.Holding.{Holding}

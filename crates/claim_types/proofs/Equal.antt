@@ -1,5 +1,5 @@
 -- What `==` computes on keys, leases, creates and operations decides whether they are equal.
-use Rattle.std.proofs.Common.{◌≡◌, refl, ap, rules, nat_eq, ◌&&◌, Bool, ℕ}
+use Rattle.std.proofs.Common.{◌≡◌, refl, ap, rules}
 use Rattle.std.specs.Bool.{Decides}
 use Rattle.std.proofs.lemmas.Bool.Decides.{Decides-and, Decides-eqb, Decides-like}
 use Rattle.std.specs.Cmp.Lexicographic.{bytes_decides, pointwise}

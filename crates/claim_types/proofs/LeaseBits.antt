@@ -1,5 +1,5 @@
 -- The numbers that stand in the bytes of a lease.
-use Rattle.std.proofs.Common.{◌≡◌, ◌⊎◌, inl, inr, Bool, true, false, ◌&&◌, if◌then◌else◌, Option, Some, None, ℕ, ◌+◌, ◌-◌, ◌^◌, ◌<◌, ◌≤◌, List, [], ◌∷◌, get_or, refl, sym, ap, ◌∙◌, arith}
+use Rattle.std.proofs.Common.{◌≡◌, ◌⊎◌, inl, inr, Bool, true, false, ◌&&◌, if◌then◌else◌, Some, None, ℕ, ◌+◌, ◌-◌, ◌^◌, List, refl, sym, ap, ◌∙◌, arith}
 use Rattle.std.specs.Int.{w16, w32, w64, from_be_bytes}
 use Rattle.std.proofs.lemmas.Nat.{from_be_bytes-to_be_bytes_2, from_be_bytes-to_be_bytes_4, from_be_bytes-to_be_bytes_8}
 use Rattle.claim_types.specs.declared.lease.LeaseId.{LeaseId}

@@ -1,5 +1,5 @@
 -- The order of keys is total, and only equal keys tie.
-use Rattle.std.proofs.Common.{◌≡◌, ℕ, ◌==◌, if◌then◌else◌, refl, ap, sym, ◌∙◌, subst, cond, true}
+use Rattle.std.proofs.Common.{◌≡◌, ℕ, ◌==◌, if◌then◌else◌, refl, ap, sym, ◌∙◌, subst, true}
 use Rattle.std.specs.Bool.{Decides}
 use Rattle.std.specs.Cmp.{IsTotalOrder, tied_itself}
 use Rattle.std.specs.Ordering.{nat_cmp, ordering_then, eq_by_cmp, is_eq}

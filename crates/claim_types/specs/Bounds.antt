@@ -1,8 +1,7 @@
 -- The bounds of the numbers in a value.
-use Rattle.std.specs.Prelude.{◌≡◌, ◌⊎◌, ℕ, ◌≤◌}
+use Rattle.std.specs.Prelude.{ℕ, ◌≤◌}
 use Rattle.claim_types.specs.declared.record.Kind.{Kind}
 use Rattle.claim_types.specs.declared.record.Kind.TheVariants.{Organization, Group, Project, User, Key, Address, Domain}
-use Rattle.claim_types.specs.declared.cell.Range.{Range}
 use Rattle.claim_types.specs.declared.limits.TheConstants.{GREATEST_IDENTIFIER, GREATEST_CELL}
 
 -- the identifier of a record

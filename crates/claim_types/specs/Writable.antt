@@ -1,5 +1,5 @@
 -- Which values can be written as messages: those whose leases are within their bounds, and whose texts are UTF-8.
-use Rattle.std.specs.Prelude.{ℕ, List, Option, Some, None}
+use Rattle.std.specs.Prelude.{List, Some, None}
 use Rattle.std.specs.List.{All}
 use Rattle.std.specs.Str.{IsUtf8}
 use Rattle.claim_types.specs.Leases.{IsLease}

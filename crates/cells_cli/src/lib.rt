@@ -1,14 +1,15 @@
 //! The program as a library: the commands, what they read and what they write.
 //!
 //! ```text
-//! let status = run(alloc, &words, &mut script, &mut out);      // words: ["replay"]
+//! let status = run(alloc, &words, &mut config, &mut script, &mut out);      // words: ["replay"]
 //! exit(status.code())
 //! ```
 //!
-//! `replay` reads requests as lines of JSON and answers each by one line, from a service in memory that
-//! knows one cell. Its whole promise is the contract of [`run`]: what is written is exactly the reply
-//! that is due to each line in the claim map after the earlier lines (`specs/Replay`, over
-//! `due` of claim_map), and where a run ends early the last line names its cause (`specs/Report`).
+//! `replay` reads requests as lines of JSON and answers each by one line, from a service in memory: one
+//! of a single cell, or with `--registry` one of the cells that a configuration names. Its whole promise
+//! is the contract of [`run`]: what is written is exactly the reply that is due to each line in the claim
+//! map after the earlier lines (`specs/Replay`, over `due` of claim_map), and where a run ends early the
+//! last line names its cause (`specs/Report`). What a run begins with is in `specs/Config`.
 //!
 //! The lines come as `specs/Lines` defines them, in whatever pieces the source gives its bytes.
 #![tactic(auto)]
@@ -17,6 +18,8 @@ mod command;
 mod config;
 mod lines;
 mod replay;
+#[cfg(test)]
+mod run_tests;
 mod service;
 mod status;
 #[cfg(test)]

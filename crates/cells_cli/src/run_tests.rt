@@ -59,18 +59,18 @@ const RANGES_ANSWERS: &[u8] =
 {\"cell\":4,\"reply\":\"no_cell\"}
 ";
 
-const PLAIN: &[&str] = &["replay"];
+const PLAIN: &str = "replay";
 
-const REGISTRY: &[&str] = &["replay", "--registry"];
+const REGISTRY: &str = "replay --registry";
 
 fn source(alloc: Global, bytes: &[u8]) -> Result<BytesSource, NoMemory> {
     Ok(BytesSource::new(Text::from_slice(alloc, bytes)?))
 }
 
-fn words_of(alloc: Global, texts: &[&str]) -> Result<Vec<String>, NoMemory> {
+fn words_of(alloc: Global, text: &str) -> Result<Vec<String>, NoMemory> {
     let mut words = Vec::new(alloc);
-    for text in texts {
-        words.push(String::from_str(alloc, *text)?)?;
+    for word in text.split_whitespace() {
+        words.push(String::from_str(alloc, word)?)?;
     }
     Ok(words)
 }
@@ -78,12 +78,12 @@ fn words_of(alloc: Global, texts: &[&str]) -> Result<Vec<String>, NoMemory> {
 // How a run ends whose script comes in pieces of at most so many bytes, and what it writes.
 fn ran(
     alloc: Global,
-    texts: &[&str],
+    words: &str,
     config: &[u8],
     script: &[u8],
     most: u16,
 ) -> Result<(Status, BytesSink), NoMemory> {
-    let words = words_of(alloc, texts)?;
+    let words = words_of(alloc, words)?;
     let mut config = source(alloc, config)?;
     let mut script = source(alloc, script)?.in_pieces(most as usize + 1);
     let mut out = BytesSink::new(alloc, 4096)?;
@@ -123,44 +123,26 @@ fn refuses_words_and_configurations(rt: HostRuntime) -> Result<(), Fail> {
     let twice =
         b"[[cell]]\nid = 1\nprefix = \"a\"\nwidth = 1\n[[cell]]\nid = 1\nprefix = \"b\"\nwidth = 1\n";
     let rows = [
+        ("", b"".as_slice(), Status::Usage, 2, b"usage\n".as_slice()),
+        ("up now", b"", Status::Usage, 2, b"usage\n"),
+        ("replay --cells", CELLS, Status::Usage, 2, b"usage\n"),
+        ("replay --registry 1", CELLS, Status::Usage, 2, b"usage\n"),
         (
-            &[].as_slice(),
-            b"".as_slice(),
-            Status::Usage,
-            2,
-            b"usage\n".as_slice(),
-        ),
-        (&["up", "now"].as_slice(), b"", Status::Usage, 2, b"usage\n"),
-        (
-            &["replay", "--cells"].as_slice(),
-            CELLS,
-            Status::Usage,
-            2,
-            b"usage\n",
-        ),
-        (
-            &["replay", "--registry", "1"].as_slice(),
-            CELLS,
-            Status::Usage,
-            2,
-            b"usage\n",
-        ),
-        (
-            &REGISTRY,
+            REGISTRY,
             twice.as_slice(),
             Status::ConfigRegistry { number: 5 },
             3,
             b"config registry 5\n",
         ),
         (
-            &REGISTRY,
+            REGISTRY,
             b"",
             Status::ConfigRegistry { number: 3 },
             3,
             b"config registry 3\n",
         ),
         (
-            &REGISTRY,
+            REGISTRY,
             b"[",
             Status::ConfigRegistry { number: 1 },
             3,
@@ -168,7 +150,7 @@ fn refuses_words_and_configurations(rt: HostRuntime) -> Result<(), Fail> {
         ),
     ];
     for (words, config, want, code, last) in rows {
-        let (status, out) = ran(rt.alloc(), *words, config, THREE, 100)?;
+        let (status, out) = ran(rt.alloc(), words, config, THREE, 100)?;
         assert_eq!(rt; status, want);
         assert_eq!(rt; status.code(), code);
         assert_eq!(rt; out.written(), last);

@@ -1,6 +1,7 @@
 -- The lines of a text, and what a step over them gives.
 use Rattle.std.specs.Prelude.{◌≡◌, ℕ, ◌+◌, ◌<◌, nat_lt, nat_le, Bool, true, false, ◌==◌, ◌||◌, if◌then◌else◌, Option, Some, None, List, [], ◌∷◌, length}
 use Rattle.std.specs.List.{onto_first}
+use Rattle.cells_cli.specs.declared.lines.TheConstants.{LINES}
 
 -- LF ends a line
 abbrev pub is_end : ℕ → Bool
@@ -20,10 +21,10 @@ IsNext ahead false line rest = (ahead ≡ []) × (rest ≡ [])
 abbrev pub StartsLong : ℕ → List ℕ → Type 0
 StartsLong limit ahead = (line : List ℕ) × (more : List (List ℕ)) × (lines_of ahead ≡ line ∷ more) × (limit < length line)
 
--- the number of the first line that is refused, where so many were given before: one of more bytes than the limit, or the one behind 4,096 others
+-- the number of the first line that is refused, where so many were given before: one of more bytes than the limit, or the one behind as many as an input may have
 abbrev pub first_refused : ℕ → ℕ → List (List ℕ) → Option ℕ
 first_refused limit given [] = None
-first_refused limit given (line ∷ lines) = if nat_lt limit (length line) || nat_le 4096 given then Some (given + 1) else first_refused limit (given + 1) lines
+first_refused limit given (line ∷ lines) = if nat_lt limit (length line) || nat_le LINES given then Some (given + 1) else first_refused limit (given + 1) lines
 
 -- what a reader of lines holds: the line given last, the bytes read that belong to no line given yet, the lines given so far, the most bytes of a line
 pub record Progress : Type 0 where

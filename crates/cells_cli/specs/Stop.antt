@@ -1,4 +1,6 @@
 -- Why a replay stops where no further line comes.
+use Rattle.std.specs.Prelude.{◌+◌}
+use Rattle.cells_cli.specs.declared.lines.TheConstants.{LINES}
 use Rattle.cells_cli.specs.declared.lines.LineFault.{LineFault}
 use Rattle.cells_cli.specs.declared.lines.LineFault.TheVariants.{TooLong, TooMany, Read}
 use Rattle.cells_cli.specs.declared.replay.Stop.{Stop}
@@ -6,5 +8,5 @@ use Rattle.cells_cli.specs.declared.replay.Stop.TheVariants.{Script, ReadFault}
 
 abbrev pub stop_of : LineFault → Stop
 stop_of (TooLong line) = Script line
-stop_of TooMany = Script 4097
+stop_of TooMany = Script (LINES + 1)
 stop_of Read = ReadFault

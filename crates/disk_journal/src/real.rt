@@ -113,7 +113,10 @@ fn counted<T: Drop>(
 }
 
 impl<R: Files + Drop> FileDisk<R> {
-    pub fn new(rt: R, alloc: Global) -> Result<Self, NoMemory> {
+    /// The files of the current folder. None is opened yet.
+    pub fn new(rt: R, alloc: Global) -> Result<Self, NoMemory>
+        ensures { IfOk result (λ disk. disk.faults ≡ 0) }
+    {
         Ok(FileDisk {
             rt,
             path: String::with_capacity(alloc, PATH_BYTES)?,

@@ -1,4 +1,4 @@
-use crate::real::{StdSink, StdSource};
+use crate::real::{FileSource, StdSink, StdSource};
 use crate::{BytesSink, BytesSource, Sink, SinkFailed, Source, SourceFailed, write_all};
 use cells_base::Text;
 use std::test::Fail;
@@ -61,4 +61,14 @@ fn writes_to_a_writer(rt: HostRuntime) -> Result<(), Fail> {
     assert_eq!(rt; sink.into_inner().len(), 0);
     assert_eq!(rt; room.as_slice(), b"abc".as_slice());
     Ok(())
+}
+
+#[test]
+fn a_file_is_read_and_a_missing_one_is_a_fault(rt: HostRuntime) {
+    let mut room = [0u8; 4];
+    let mut empty = FileSource::new(&rt, "/dev/null");
+    assert_eq!(rt; read_once(&mut empty, &mut room), Ok(0));
+    let mut missing = FileSource::new(&rt, "no-such-folder/cells.toml");
+    assert_eq!(rt; read_once(&mut missing, &mut room), Err(SourceFailed));
+    assert_eq!(rt; read_once(&mut missing, &mut room), Err(SourceFailed));
 }

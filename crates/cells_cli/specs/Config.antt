@@ -45,10 +45,10 @@ begins None config = Err Usage
 begins (Some Replay) config = Ok plain_start
 begins (Some ReplayRegistry) config = configured config
 
-abbrev pub reads_config : Option Command → Type 0
-reads_config None = ⊥
-reads_config (Some Replay) = ⊥
-reads_config (Some ReplayRegistry) = Unit {0}
+abbrev pub ReadsConfig : Option Command → Type 0
+ReadsConfig None = ⊥
+ReadsConfig (Some Replay) = ⊥
+ReadsConfig (Some ReplayRegistry) = Unit {0}
 
 abbrev pub status_of_config : ConfigFault → Status
 status_of_config Read = ReadFault

@@ -4,7 +4,7 @@ ghost use Rattle.cells_edge.specs.Edge.{IsPrefix};
 ghost use Rattle.claim_map.specs.State.{leases_of};
 ghost use Rattle.claim_map.specs.Writable.{IsWritable};
 ghost use Rattle.cells_cli.specs.Lines.{lines_of, first_refused};
-ghost use Rattle.cells_cli.specs.Config.{command_of, begins, reads_config};
+ghost use Rattle.cells_cli.specs.Config.{command_of, begins, ReadsConfig};
 ghost use Rattle.cells_cli.specs.Service.{map_of, start_with};
 ghost use Rattle.cells_cli.specs.Report.{last_line, replies_to, LeavesFront, IsRefused, EndsService, Ends};
 
@@ -157,7 +157,7 @@ pub fn run<A: Source, B: Source, W: Sink>(
     ensures script_cause { IsTrue B.tells → (k : ℕ) → result ≡ Status.Script k → first_refused BODY 0 (lines_of (B.left script.old)) ≡ Some k }
     ensures begun_cause { IsTrue A.tells → (result ≡ Status.End) ⊎ ((k : ℕ) × (result ≡ Status.Script k)) → IsOk (begins (command_of words.now) (A.left config.old)) }
     ensures refused_cause { IsTrue A.tells → IsRefused result → begins (command_of words.now) (A.left config.old) ≡ Err result }
-    ensures read_cause { result ≡ Status.ReadFault → (reads_config (command_of words.now) × Rose (A.faults config.old) (A.faults config.new)) ⊎ Rose (B.faults script.old) (B.faults script.new) }
+    ensures read_cause { result ≡ Status.ReadFault → (ReadsConfig (command_of words.now) × Rose (A.faults config.old) (A.faults config.new)) ⊎ Rose (B.faults script.old) (B.faults script.new) }
     ensures write_cause { result ≡ Status.WriteFault → Rose (W.faults out.old) (W.faults out.new) }
     ensures statuses { Ends (command_of words.now) result }
 {

@@ -1,7 +1,7 @@
 //! The configuration of a run, read as a whole.
 ghost use Rattle.std.specs.Prelude.{◌≡◌, ◌≤◌, ◌<◌, ◌+◌, ◌++◌, [], List, ℕ, IsTrue, length, take, IfOk, OnOk, Ok, Err, Some, ◌⊎◌, IsOk};
 ghost use Rattle.cells_base.specs.Causes.{HasCause, Rose};
-ghost use Rattle.cells_cli.specs.Config.{begins, configured, reads_config, Configures};
+ghost use Rattle.cells_cli.specs.Config.{begins, configured, ReadsConfig, Configures};
 ghost use Rattle.claim_map.specs.State.{leases_of};
 ghost use Rattle.claim_map.specs.Writable.{IsWritable};
 ghost use Rattle.cells_cli.specs.Service.{map_of};
@@ -113,7 +113,7 @@ pub fn service_for<A: Source>(
     config: &mut A,
 ) -> Result<Service, ConfigFault>
     ensures told { IsTrue A.tells → Configures result (begins (Some command) (A.left config.old)) }
-    ensures read { result ≡ Err ConfigFault.Read → reads_config (Some command) × Rose (A.faults config.old) (A.faults config.new) }
+    ensures read { result ≡ Err ConfigFault.Read → ReadsConfig (Some command) × Rose (A.faults config.old) (A.faults config.new) }
     ensures plain { command ≡ Command.Replay → (result ≡ Err ConfigFault.Memory) ⊎ IsOk result }
     ensures writable { IfOk result (λ service. IsWritable (leases_of (map_of service))) }
 {

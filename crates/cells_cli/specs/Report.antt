@@ -1,6 +1,8 @@
 -- The report of a run: the answers, and then the last line.
-use Rattle.std.specs.Prelude.{◌≡◌, ◌⊎◌, ℕ, List, [], ◌∷◌, ◌++◌, take, Option, Some, None, Result, Ok, Err}
+use Rattle.std.specs.Prelude.{◌≡◌, ◌⊎◌, ℕ, ◌-◌, List, [], ◌∷◌, ◌++◌, take, Option, Some, None, Result, Ok, Err}
 use Rattle.cells_edge.specs.Edge.{IsPrefix}
+use Rattle.claim_types.specs.declared.limits.TheConstants.{BODY}
+use Rattle.cells_cli.specs.Lines.{first_refused}
 use Rattle.cells_cli.specs.declared.command.Command.{Command}
 use Rattle.cells_cli.specs.declared.command.Command.TheVariants.{Replay, ReplayRegistry}
 use Rattle.cells_cli.specs.declared.status.Status.{Status}
@@ -26,12 +28,19 @@ abbrev pub replies_to : Result Start Status → List (List ℕ) → List ℕ
 replies_to (Ok start) lines = answers start.registry start.map lines
 replies_to (Err status) lines = []
 
--- a front of a report: of replies to some first lines, and of a last line, if there is one
-abbrev pub IsLast : List ℕ → Type 0
-IsLast last = (last ≡ []) ⊎ ((status : Status) × (last ≡ last_line status))
+-- the reports that a run may be writing, by the status with which it would end: only replies; those before the refused line, and the line
+-- that names it; some first replies, and the line of a fault of reading or of want of memory; or that line or the refusal's alone
+abbrev pub MayWrite : Result Start Status → List (List ℕ) → Status → List ℕ → Type 0
+MayWrite (Ok start) lines End report = (n : ℕ) × (report ≡ replies_to (Ok start) (take n lines))
+MayWrite (Ok start) lines (Script k) report = (first_refused BODY 0 lines ≡ Some k) × (report ≡ replies_to (Ok start) (take (k - 1) lines) ++ last_line (Script k))
+MayWrite (Ok start) lines ReadFault report = (n : ℕ) × (report ≡ replies_to (Ok start) (take n lines) ++ last_line ReadFault)
+MayWrite (Ok start) lines Memory report = (n : ℕ) × (report ≡ replies_to (Ok start) (take n lines) ++ last_line Memory)
+MayWrite (Ok start) lines other report = ⊥
+MayWrite (Err why) lines status report = ((status ≡ why) ⊎ ((status ≡ ReadFault) ⊎ (status ≡ Memory))) × (report ≡ last_line status)
 
+-- a front of such a report is left
 abbrev pub LeavesFront : Result Start Status → List (List ℕ) → List ℕ → List ℕ → Type 0
-LeavesFront start lines before now = (n : ℕ) × (last : List ℕ) × IsLast last × (front : List ℕ) × IsPrefix front (replies_to start (take n lines) ++ last) × (now ≡ before ++ front)
+LeavesFront start lines before now = (status : Status) × (report : List ℕ) × MayWrite start lines status report × (front : List ℕ) × IsPrefix front report × (now ≡ before ++ front)
 
 -- the words or the configuration are refused
 abbrev pub IsRefused : Status → Type 0

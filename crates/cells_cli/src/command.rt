@@ -95,7 +95,7 @@ fn finish<W: Sink>(alloc: Global, status: Status, out: &mut W) -> Status
     requires { status ≢ Status.WriteFault }
     ensures ends { (result ≡ status) ⊎ ((result ≡ Status.Memory) ⊎ (result ≡ Status.WriteFault)) }
     ensures told { IsTrue W.tells → result ≢ Status.WriteFault → W.written out.new ≡ W.written out.old ++ last_line result }
-    ensures part { IsTrue W.tells → result ≡ Status.WriteFault → (last : Status) × (front : List ℕ) × IsPrefix front (last_line last) × (W.written out.new ≡ W.written out.old ++ front) }
+    ensures part { IsTrue W.tells → result ≡ Status.WriteFault → (last : Status) × ((last ≡ status) ⊎ (last ≡ Status.Memory)) × (front : List ℕ) × IsPrefix front (last_line last) × (W.written out.new ≡ W.written out.old ++ front) }
     ensures cause { result ≡ Status.WriteFault → Rose (W.faults out.old) (W.faults out.new) }
 {
     match line_of(alloc, status) {

@@ -29,7 +29,7 @@ returns g c =
       script = λ b w k h. script_lines start lines stop before mid now other (c.in-Err.ensures.told b w) k (own_script stop result ends k h) (last_line (Script k)) (last w (Script k) h (λ e. cc));
       read = λ b w h. some_lines start lines stop before mid now other (c.in-Err.ensures.told b w) (last_line ReadFault) (last w ReadFault h (λ e. cc));
       memory = λ b w h. some_lines start lines stop before mid now other (c.in-Err.ensures.told b w) (last_line Memory) (last w Memory h (λ e. cc));
-      write = λ b w h. let p = c.finish.ensures.part w h in some_front start lines stop before mid now other (c.in-Err.ensures.told b w) p.0 p.1 p.2 p.3;
+      write = λ b w h. let p = c.finish.ensures.part w h in some_front start lines stop before mid now other (c.in-Err.ensures.told b w) p.2 p.4 p.0 (subst (λ (s : Status). (p.0 ≡ s) ⊎ (p.0 ≡ Memory)) c.from.ensures p.1) (λ k is. c.replay.ensures.script b k (c.in-Err.is ∙ ap Err is)) p.3;
       end_cause = λ b h. absurd (no_end stop result ends h);
       script_cause = λ b k h. c.replay.ensures.script b k (c.in-Err.is ∙ ap Err (own_script stop result ends k h));
       read_cause = λ h. c.replay.ensures.read (c.in-Err.is ∙ ap Err (own_read stop result ends h));

@@ -157,9 +157,13 @@ pub fn run<A: Source, B: Source, W: Sink>(
     ensures script_cause { IsTrue B.tells → (k : ℕ) → result ≡ Status.Script k → first_refused BODY 0 (lines_of (B.left script.old)) ≡ Some k }
     ensures begun_cause { IsTrue A.tells → (result ≡ Status.End) ⊎ ((k : ℕ) × (result ≡ Status.Script k)) → IsOk (begins (command_of words.now) (A.left config.old)) }
     ensures refused_cause { IsTrue A.tells → IsRefused result → begins (command_of words.now) (A.left config.old) ≡ Err result }
-    ensures read_cause { result ≡ Status.ReadFault → (ReadsConfig (command_of words.now) × Rose (A.faults config.old) (A.faults config.new)) ⊎ Rose (B.faults script.old) (B.faults script.new) }
+    ensures read_cause { result ≡ Status.ReadFault → (ReadsConfig (command_of words.now) × Rose (A.faults config.old) (A.faults config.new) × (script.new ≡ script.old) × (IsTrue W.tells → W.written out.new ≡ W.written out.old ++ last_line Status.ReadFault)) ⊎ Rose (B.faults script.old) (B.faults script.new) }
     ensures write_cause { result ≡ Status.WriteFault → Rose (W.faults out.old) (W.faults out.new) }
     ensures statuses { Ends (command_of words.now) result }
+
+    // what is not read
+    ensures script_unread { IsRefused result → script.new ≡ script.old }
+    ensures config_unread { (ReadsConfig (command_of words.now) → ⊥) → config.new ≡ config.old }
 {
     let Some(command) = command_of(words) else {
         return finish(alloc, Status::Usage, out);

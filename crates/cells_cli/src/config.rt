@@ -116,6 +116,7 @@ pub fn service_for<A: Source>(
     ensures read { result ≡ Err ConfigFault.Read → ReadsConfig (Some command) × Rose (A.faults config.old) (A.faults config.new) }
     ensures plain { command ≡ Command.Replay → (result ≡ Err ConfigFault.Memory) ⊎ IsOk result }
     ensures writable { IfOk result (λ service. IsWritable (leases_of (map_of service))) }
+    ensures unread { (ReadsConfig (Some command) → ⊥) → config.new ≡ config.old }
 {
     match command {
         Command::Replay => Ok(Service::plain(alloc)?),

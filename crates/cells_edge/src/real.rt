@@ -54,7 +54,8 @@ pub struct FileSource<'a, R: Files> {
 
 impl<'a, R: Files> FileSource<'a, R> {
     pub fn new(rt: &'a R, path: &'a str) -> Self
-        ensures { result.faults ≡ 0 }
+        ensures path { result.path.now ≡ path.now }
+        ensures faults { result.faults ≡ 0 }
     {
         FileSource {
             rt,

@@ -8,6 +8,8 @@
 
 enum { HEADER = 16, BODY = 100, RECORD = 4 + BODY + 1 };
 
+static const char path[] = "cells-data/cell-65000.journal";
+
 static int put(int file, const void *bytes, size_t count, off_t at) {
     return pwrite(file, bytes, count, at) == (ssize_t)count;
 }
@@ -17,7 +19,7 @@ int main(int argc, char **argv) {
     unsigned char record[RECORD] = {0, 0, 0, BODY};
     memset(record + 4, 'x', BODY);
     mkdir("cells-data", 0777);
-    int file = open("cells-data/service.journal", O_RDWR | O_CREAT | O_TRUNC, 0666);
+    int file = open(path, O_RDWR | O_CREAT | O_EXCL, 0666);
     if (file < 0 || !put(file, "cells-journal-01", HEADER + 1, 0) || fsync(file)) return 1;
     off_t gate = HEADER;
     for (long i = 0; i < count; i++) {
@@ -25,6 +27,7 @@ int main(int argc, char **argv) {
         if (!put(file, "\1", 1, gate) || fsync(file)) return 1;
         gate += 1 + 4 + BODY;
     }
+    if (unlink(path)) return 1;
     printf("%ld\n", count);
     return 0;
 }

@@ -2,11 +2,12 @@
 use Rattle.std.proofs.Common.{◌≡◌, ℕ, ◌+◌, ◌<◌, Bool, true, false, cond, nat_eq, List, [], ◌∷◌, ◌++◌, length, take, drop, get_or, Option, Some, None, option_map, is_some, refl, sym, ◌∙◌, ap}
 use Rattle.std.specs.List.{list_any, find}
 use Rattle.std.proofs.lemmas.List.{take_more, at_drop_more}
+use Rattle.cells_base.specs.Options.{◌or_else◌}
 use Rattle.cells_base.proofs.Scan.{scan_here}
 use Rattle.claim_types.specs.declared.cell.Cell.{Cell}
 use Rattle.cell_registry.specs.declared.fault.RegistryFault.{RegistryFault}
 use Rattle.cell_registry.specs.declared.fault.RegistryFault.TheVariants.{Duplicate, PrefixOverlap}
-use Rattle.cell_registry.specs.Bounds.{repeated_id, overlap, overlapping, ◌or_else◌}
+use Rattle.cell_registry.specs.Bounds.{repeated_id, overlap, overlapping}
 
 -- no id stood twice below i
 module _ (cells : List Cell) (i : ℕ) (so_far : repeated_id (take i cells) (drop i cells) ≡ repeated_id [] cells) (c : Cell) (lt : i < length cells) (is : c ≡ get_or cells i c) where

@@ -5,12 +5,13 @@ use Rattle.std.specs.List.{list_all, filter_map, cons_option}
 use Rattle.std.proofs.lemmas.Grind.{common_steps}
 use Rattle.std.proofs.lemmas.Option.{same_Some}
 use Rattle.toml.specs.Data.{Data}
+use Rattle.cells_base.specs.Options.{◌or_else◌}
 use Rattle.claim_types.specs.declared.cell.Cell.{Cell}
 use Rattle.claim_types.specs.declared.limits.TheConstants.{GREATEST_CELL, GREATEST_IDENTIFIER}
 use Rattle.cell_registry.specs.declared.limits.TheConstants.{CELLS, DEFAULT_THRESHOLD, GREATEST_THRESHOLD}
 use Rattle.cell_registry.specs.declared.fault.Name.TheVariants.{Id, Prefix, Width}
 use Rattle.cell_registry.specs.declared.fault.RegistryFault.TheVariants.{TooManyCells, BadValue}
-use Rattle.cell_registry.specs.Bounds.{is_within, is_prefix, is_cell, is_registry, repeated_id, overlapping, ◌or_else◌}
+use Rattle.cell_registry.specs.Bounds.{is_within, is_prefix, is_cell, is_registry, repeated_id, overlapping}
 use Rattle.cell_registry.specs.Reading.{integer_at, text_at, between, prefix_of, id_in, prefix_in, width_in, cell_with, cell_in, bad_in, first_found, too_many, missing, bad_value, value_fault, cells_fault, registry_of}
 
 -- neither of two is there

@@ -6,6 +6,7 @@ use Rattle.toml.specs.Data.{Data, get, as_array}
 use Rattle.toml.specs.View.{view, items_of, items_view}
 use Rattle.toml.specs.Parse.{parse_document}
 use Rattle.toml.specs.declared.value.Value.{Value}
+use Rattle.cells_base.proofs.Truth.{not_true}
 use Rattle.cell_registry.specs.declared.fault.Name.TheVariants.{Cell as CellName}
 use Rattle.cell_registry.specs.declared.fault.RegistryFault.TheVariants.{Text}
 use Rattle.cell_registry.specs.Faults.{key_text}
@@ -24,9 +25,5 @@ cells_listed tree found vs key named stands is =
 pub text-read : (bytes : List ℕ) → IsUtf8 bytes → registry_read (parse_document bytes) ≡ registry_text bytes
 text-read bytes text = sym (ap (λ b. if b then registry_read (parse_document bytes) else Err Text) (is_utf8-from_IsUtf8 bytes text))
 
-false_where_not : (b : Bool) → (b ≡ true → ⊥) → b ≡ false
-false_where_not true h = absurd (h refl)
-false_where_not false h = refl
-
 pub other-refused : (bytes : List ℕ) → (IsUtf8 bytes → ⊥) → registry_text bytes ≡ Err Text
-other-refused bytes other = ap (λ b. if b then registry_read (parse_document bytes) else Err Text) (false_where_not (is_utf8 bytes) (λ h. other (IsUtf8-from_is_utf8 bytes h)))
+other-refused bytes other = ap (λ b. if b then registry_read (parse_document bytes) else Err Text) (not_true (is_utf8 bytes) (λ h. other (IsUtf8-from_is_utf8 bytes h)))

@@ -1,6 +1,7 @@
 -- What a configuration may say.
 use Rattle.std.specs.Prelude.{ℕ, Bool, ◌&&◌, ◌||◌, nat_eq, nat_le, if◌then◌else◌, List, [], ◌∷◌, ◌++◌, length, Option, Some, None, is_none, option_map}
 use Rattle.std.specs.List.{list_any, list_all, find, starts_with}
+use Rattle.cells_base.specs.Options.{◌or_else◌}
 use Rattle.claim_types.specs.declared.cell.Cell.{Cell}
 use Rattle.claim_types.specs.declared.limits.TheConstants.{GREATEST_CELL, GREATEST_IDENTIFIER}
 use Rattle.claim_map.specs.Registry.{Registry}
@@ -20,12 +21,6 @@ is_prefix text = is_within 1 PREFIX_BYTES (length text) && list_all is_prefix_by
 
 abbrev pub is_cell : Cell → Bool
 is_cell c = is_within 1 GREATEST_CELL c.id && is_prefix c.prefix && is_within 1 GREATEST_IDENTIFIER c.width
-
--- the first of two, if there is one
-infixr 20 ◌or_else◌
-abbrev pub ◌or_else◌ : {A : Type 0} → Option A → Option A → Option A
-(Some x) or_else other = Some x
-None or_else other = other
 
 -- the first of these cells whose id stood earlier, where they stand behind the earlier ones
 abbrev pub repeated_id : List Cell → List Cell → Option RegistryFault

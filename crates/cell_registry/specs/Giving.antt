@@ -1,8 +1,9 @@
 -- What the calls that give ranges answer, and what stays.
-use Rattle.std.specs.Prelude.{◌≡◌, Bool, IsTrue, Result, Ok, Err}
+use Rattle.std.specs.Prelude.{◌≡◌, Bool, true, false, IsTrue, Result, Ok, Err}
 use Rattle.cells_base.specs.declared.memory.NoMemory.{NoMemory}
 use Rattle.claim_types.specs.declared.cell.Range.{Range}
 use Rattle.claim_map.specs.Ranges.{RangeVerdict, unknown_cell, kept, too_far, exhausted, fresh}
+use Rattle.cell_registry.specs.declared.ranges.Asked.{Asked}
 use Rattle.cell_registry.specs.declared.fault.RangeFault.{RangeFault}
 use Rattle.cell_registry.specs.declared.fault.RangeFault.TheVariants.{UnknownCell, TooFar, Exhausted, Memory}
 
@@ -13,6 +14,14 @@ answer_to (kept r) = Ok r
 answer_to (too_far next) = Err (TooFar next)
 answer_to (exhausted last) = Err (Exhausted last)
 answer_to (fresh r) = Ok r
+
+-- the same, where nothing is given yet
+abbrev pub asked_by : RangeVerdict → Result Asked RangeFault
+asked_by unknown_cell = Err UnknownCell
+asked_by (kept r) = Ok (record { range = r; fresh = false })
+asked_by (too_far next) = Err (TooFar next)
+asked_by (exhausted last) = Err (Exhausted last)
+asked_by (fresh r) = Ok (record { range = r; fresh = true })
 
 -- only a fresh range may want memory
 abbrev pub IsFresh : RangeVerdict → Type 0

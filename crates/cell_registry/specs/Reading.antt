@@ -4,6 +4,7 @@ use Rattle.std.specs.List.{filter_map}
 use Rattle.std.specs.Str.{is_utf8}
 use Rattle.toml.specs.Data.{Data, table, Items, no_items, item, Members, get, as_str, as_integer, as_array, as_table}
 use Rattle.toml.specs.Parse.{parse_document}
+use Rattle.cells_base.specs.Options.{◌or_else◌}
 use Rattle.claim_types.specs.declared.cell.Cell.{Cell}
 use Rattle.claim_types.specs.declared.limits.TheConstants.{GREATEST_CELL, GREATEST_IDENTIFIER}
 use Rattle.claim_map.specs.Registry.{Registry}
@@ -13,7 +14,7 @@ use Rattle.cell_registry.specs.declared.fault.Name.TheVariants.{Cell as CellName
 use Rattle.cell_registry.specs.declared.fault.RegistryFault.{RegistryFault}
 use Rattle.cell_registry.specs.declared.fault.RegistryFault.TheVariants.{Text, TooManyCells, Missing, BadValue, Duplicate, PrefixOverlap, Memory}
 use Rattle.cell_registry.specs.Faults.{key_text}
-use Rattle.cell_registry.specs.Bounds.{is_within, is_prefix, ◌or_else◌, repeated_id, overlapping}
+use Rattle.cell_registry.specs.Bounds.{is_within, is_prefix, repeated_id, overlapping}
 
 -- what a table gives under a name, if it is of the kind
 abbrev pub integer_at : Name → Data → Option ℤ

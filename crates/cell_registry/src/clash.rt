@@ -6,21 +6,8 @@ ghost use Rattle.cell_registry.specs.Bounds as spec;
 ghost use Rattle.cell_registry.specs.Reading.{cells_fault as clash_of};
 
 use crate::RegistryFault;
+use cells_base::{behind, front};
 use claim_types::Cell;
-
-fn front(cells: &[Cell], at: usize) -> &[Cell]
-    requires { at ≤ length cells.now }
-    ensures { result.now ≡ take at cells.now }
-{
-    &cells[..at]
-}
-
-fn behind(cells: &[Cell], at: usize) -> &[Cell]
-    requires { at < length cells.now }
-    ensures { result.now ≡ drop (at + 1) cells.now }
-{
-    &cells[at + 1..]
-}
 
 // Whether one of these cells has the id.
 fn has_id(cells: &[Cell], id: u16) -> bool
@@ -63,7 +50,7 @@ fn overlapping(cells: &[Cell]) -> Option<RegistryFault>
     ensures { result ≡ spec.overlapping cells.now }
 {
     for (index, cell) in cells.iter().enumerate() {
-        let found = overlap_behind(cell, behind(cells, index));
+        let found = overlap_behind(cell, behind(cells, index + 1));
         if found.is_some() {
             return found;
         }

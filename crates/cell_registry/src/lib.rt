@@ -41,5 +41,5 @@ mod tests;
 pub use claim_types::{Cell, Range};
 pub use fault::{Name, RangeFault, RegistryFault};
 pub use limits::{CELLS, DEFAULT_THRESHOLD, GREATEST_THRESHOLD, PREFIX_BYTES};
-pub use ranges::Ranges;
+pub use ranges::{Asked, Ranges};
 pub use registry::{Cells, Registry};

@@ -1,14 +1,21 @@
-ghost use Rattle.std.specs.Prelude.{◌≡◌, ◌+◌, ◌≤◌, ◌<◌, ◌^◌, List, [], ◌∷◌, ◌++◌, length, nat_eq, ◌&&◌, if◌then◌else◌, is_ok, IfOk, IfSome, OnErr};
+ghost use Rattle.std.specs.Prelude.{◌≡◌, ◌+◌, ◌≤◌, ◌<◌, ◌^◌, List, [], ◌∷◌, ◌++◌, length, nat_eq, ◌&&◌, if◌then◌else◌, true, IsTrue, is_ok, IfOk, IfSome, OnErr};
 ghost use Rattle.claim_types.specs.declared.cell.Range.{Range};
 ghost use Rattle.claim_map.specs.State.{covers as is_covered};
 ghost use Rattle.claim_map.specs.Ranges as rule;
-ghost use Rattle.claim_map.specs.Ranges.{AreRanges, range_verdict, given_after};
-ghost use Rattle.cell_registry.specs.Giving.{IsGiven, IsAdded};
+ghost use Rattle.claim_map.specs.Ranges.{AreRanges, range_verdict, ranges_after};
+ghost use Rattle.cell_registry.specs.Giving.{asked_by, IsGiven, IsAdded};
 
 use crate::{RangeFault, Registry};
 use claim_types::{GREATEST_IDENTIFIER, NoMemory, Range};
 use std::alloc::Global;
 use std::marker::Model;
+
+/// The range that a request comes to, and whether it is to be given now or was given before.
+#[derive(Clone, Copy)]
+pub struct Asked {
+    pub range: Range,
+    pub fresh: bool,
+}
 
 /// The ranges that were given, in order of giving. Contracts see it as the list of them.
 #[derive(Drop)]
@@ -101,19 +108,22 @@ impl Ranges {
         Ok(true)
     }
 
-    /// Gives a cell its range with this number. A number that was given before gives the same range, and
-    /// nothing changes.
-    pub fn give(&mut self, registry: &Registry, cell: u16, number: u64) -> Result<Range, RangeFault>
+    /// What a request of a cell for its range with this number comes to. Nothing changes, and it takes no
+    /// memory.
+    pub fn asked(&self, registry: &Registry, cell: u16, number: u64) -> Result<Asked, RangeFault>
         requires { 1 ≤ number }
-        ensures answer { IsGiven result (range_verdict registry.now self.old cell number) }
-        ensures after { self.new ≡ (if is_ok result then given_after (range_verdict registry.now self.old cell number) self.old else self.old) }
-        ensures asked { IfOk result (λ range. (range.cell ≡ cell) × (range.number ≡ number)) }
+        ensures answer { result ≡ asked_by (range_verdict registry.now self.now cell number) }
+        ensures asked { IfOk result (λ asked. (asked.range.cell ≡ cell) × (asked.range.number ≡ number)) }
+        ensures follows { IfOk result (λ asked. IsTrue asked.fresh → rule.follows self.now asked.range ≡ true) }
     {
         let Some(cell) = registry.cell(cell) else {
             return Err(RangeFault::UnknownCell);
         };
         if let Some(range) = given_as(&self.given, cell.id, number) {
-            return Ok(range);
+            return Ok(Asked {
+                range,
+                fresh: false,
+            });
         }
         let next = next_number(&self.given, cell.id);
         if next < number {
@@ -129,8 +139,23 @@ impl Ranges {
             low: last + 1,
             high: last + cell.width,
         };
-        self.given.push(range)?;
-        Ok(range)
+        Ok(Asked { range, fresh: true })
+    }
+
+    /// Gives a cell its range with this number. A number that was given before gives the same range, and
+    /// nothing changes.
+    pub fn give(&mut self, registry: &Registry, cell: u16, number: u64) -> Result<Range, RangeFault>
+        requires { 1 ≤ number }
+        ensures answer { IsGiven result (range_verdict registry.now self.old cell number) }
+        ensures after { self.new ≡
+            (if is_ok result then ranges_after (range_verdict registry.now self.old cell number) self.old else self.old) }
+        ensures asked { IfOk result (λ range. (range.cell ≡ cell) × (range.number ≡ number)) }
+    {
+        let asked = self.asked(registry, cell, number)?;
+        if asked.fresh {
+            self.given.push(asked.range)?;
+        }
+        Ok(asked.range)
     }
 
     /// Whether an identifier lies in a range of the cell.

@@ -9,20 +9,7 @@ use Rattle.std.specs.FinMap.{FinMap, get, entries, entries_sorted, get-entries}
 use Rattle.std.specs.FinMap.Entries.{find, is_sorted, below_all}
 use Rattle.std.specs.List.{All}
 use Rattle.std.proofs.lemmas.List.Elements.{All-nil, All-cons, All-head, All-tail}
-use Rattle.cells_base.proofs.Maps.{and_split}
-
-picked : {V : Type 0} (b : Bool) (x v : V) (rest : Option V) → cond b (Some x) rest ≡ Some v → (x ≡ v) ⊎ (rest ≡ Some v)
-picked true x v rest h = inl cc
-picked false x v rest h = inr h
-
-true_or_false : (b : Bool) → (b ≡ true) ⊎ (b ≡ false)
-true_or_false true = inl refl
-true_or_false false = inr refl
-
-tied_equal : (o : Ordering) → is_eq o ≡ true → o ≡ Equal
-tied_equal Less h = cc
-tied_equal Equal h = refl
-tied_equal Greater h = cc
+use Rattle.cells_base.proofs.Truth.{is_equal, and_split, true_or_false, picked}
 
 is_true : (b : Bool) → T b → b ≡ true
 is_true true t = refl
@@ -68,7 +55,7 @@ module _ {K X : Type 0} {R : K → K → Ordering} (total : IsTotalOrder R) (P :
   later_key k q v (x ∷ es) all is =
       let both = and_split (is_lt (R k x.0)) (below_all R k es) all in
       elim (true_or_false (eq_by_cmp R q x.0)) [
-        | inl tied ↦ ap is_eq (total.congr q x.0 k (tied_equal (R q x.0) tied)) ∙ below (R k x.0) (R x.0 k) both.0 (total.antisymm x.0 k)
+        | inl tied ↦ ap is_eq (total.congr q x.0 k (is_equal (R q x.0) tied)) ∙ below (R k x.0) (R x.0 k) both.0 (total.antisymm x.0 k)
         | inr apart ↦ later_key k q v es both.1 (sym (ap (λ b. cond b (Some x.1) (find R q es)) apart) ∙ is)
       ]
 

@@ -1,4 +1,9 @@
+pub mod Truth
 pub mod Scan
+pub mod Members
 pub mod Maps
 pub mod Place
 pub mod Entries
+pub mod Counts
+pub mod Options
+pub mod Finds

@@ -5,28 +5,8 @@ use Rattle.std.specs.declared.cmp.Ordering.TheVariants.{Less, Equal, Greater}
 use Rattle.std.specs.List.{list_all}
 use Rattle.std.specs.Ordering.{eq_by_cmp, is_eq}
 use Rattle.std.specs.Cmp.{IsTotalOrder, tied_itself}
+use Rattle.cells_base.proofs.Truth.{is_equal, and_split, true_or_false, not_true, picked}
 use Rattle.std.specs.FinMap.{FinMap, IsAntisymmetric, get, insert, remove, entries, find, get-insert, get-remove, get-entries}
-
-is_equal : (o : Ordering) → is_eq o ≡ true → o ≡ Equal
-is_equal Less h = cc
-is_equal Equal h = refl
-is_equal Greater h = cc
-
-pub and_split : (a b : Bool) → (a && b) ≡ true → (a ≡ true) × (b ≡ true)
-and_split true b h = (refl, h)
-and_split false b h = cc
-
-pub or_split : (a b : Bool) → (a || b) ≡ true → (a ≡ true) ⊎ (b ≡ true)
-or_split true b h = inl refl
-or_split false b h = inr h
-
-true_or_false : (b : Bool) → (b ≡ true) ⊎ (b ≡ false)
-true_or_false true = inl refl
-true_or_false false = inr refl
-
-not_true : (b : Bool) → (b ≡ true → ⊥) → b ≡ false
-not_true true h = absurd (h refl)
-not_true false h = refl
 
 module _ {K : Type 0} {R : K → K → Ordering} (total : IsTotalOrder R) (exact : IsAntisymmetric R) where
   pub tie_itself : (k : K) → eq_by_cmp R k k ≡ true
@@ -71,10 +51,6 @@ module _ {K V : Type 0} {R : K → K → Ordering} (total : IsTotalOrder R) (exa
     | inl e ↦ let none : None ≡ Some w = sym (remove_same m k) ∙ subst (λ q. get (remove m k) q ≡ Some w) e is in absurd cc
     | inr apart ↦ (apart, sym (remove_other m k q apart) ∙ is)
   ]
-
-picked : {V : Type 0} (b : Bool) (x v : V) (rest : Option V) → cond b (Some x) rest ≡ Some v → (x ≡ v) ⊎ (rest ≡ Some v)
-picked true x v rest h = inl cc
-picked false x v rest h = inr h
 
 found : {K V : Type 0} (R : K → K → Ordering) (p : V → Bool) (q : K) (v : V) (es : List (K × V)) → list_all (λ (e : K × V). p e.1) es ≡ true → find R q es ≡ Some v → p v ≡ true
 found R p q v [] all is = cc

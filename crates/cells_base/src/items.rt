@@ -76,21 +76,22 @@ impl<T: Drop> Items<T> {
     }
 }
 
-fn copies<T: Copied + Drop>(alloc: Global, items: &[T]) -> Result<Vec<T>, NoMemory>
-    ensures { IfOk result (λ v. v.items ≡ items.now) }
-{
-    let mut copied = Vec::with_capacity(alloc, items.len())?;
-    for item in items {
-        copied.push(item.copy(alloc)?)?;
+impl<T: Copied + Drop> Items<T> {
+    /// A copy of these elements.
+    pub fn from_slice(alloc: Global, items: &[T]) -> Result<Self, NoMemory>
+        ensures { IfOk result (λ copied. copied ≡ items.now) }
+    {
+        let mut copied = Vec::with_capacity(alloc, items.len())?;
+        for item in items {
+            copied.push(item.copy(alloc)?)?;
+        }
+        Ok(Items { items: copied })
     }
-    Ok(copied)
 }
 
 impl<T: Copied + Drop> Copied for Items<T> {
     fn copy(&self, alloc: Global) -> Result<Self, NoMemory> {
-        Ok(Items {
-            items: copies(alloc, &self.items)?,
-        })
+        Items::from_slice(alloc, self.as_slice())
     }
 }
 

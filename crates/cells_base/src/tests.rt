@@ -53,3 +53,13 @@ fn lists_have_their_items(rt: HostRuntime) -> Result<(), Fail> {
     assert_eq!(rt; again.len(), 2);
     Ok(())
 }
+
+#[test]
+fn slices_have_their_parts(rt: HostRuntime) -> Result<(), Fail> {
+    let digits = [1, 2, 3];
+    assert_eq!(rt; front(&digits, 2), [1, 2].as_slice());
+    assert_eq!(rt; behind(&digits, 2), [3].as_slice());
+    let copy = Items::from_slice(rt.alloc(), &[Text::from_slice(rt.alloc(), b"a")?])?;
+    assert_eq!(rt; copy.len(), 1);
+    Ok(())
+}

@@ -1,15 +1,22 @@
 -- The answers to lines, line by line.
-use Rattle.std.proofs.Common.{◌≡◌, ◌==◌, ℕ, zero, suc, ◌+◌, add-one, Bool, true, false, if◌then◌else◌, List, [], ◌∷◌, ◌++◌, length, take, drop, append_assoc, Result, Err, refl, sym, ap, ◌∙◌, arith}
+use Rattle.std.proofs.Common.{◌≡◌, ◌==◌, ℕ, zero, suc, ◌+◌, ◌-◌, ◌<◌, ◌≤◌, ◌||◌, nat_lt, nat_le, cond, Option, Some, None, add-one, Bool, true, false, if◌then◌else◌, List, [], ◌∷◌, ◌++◌, length, take, drop, append_assoc, Result, Err, refl, sym, ap, ◌∙◌, arith}
 use Rattle.std.proofs.lemmas.List.{append-nil}
 use Rattle.std.proofs.lemmas.Bool.Decides.{nat_tests}
-use Rattle.message_json.specs.Requests.{request_of}
+use Rattle.message_json.specs.RequestReader.{request_of}
 use Rattle.claim_map.specs.Registry.{Registry}
 use Rattle.claim_map.specs.State.{ClaimMap}
 use Rattle.cells_edge.specs.Edge.{IsPrefix}
-use Rattle.cells_cli.specs.Lines.{lines_of, IsNext}
+use Rattle.cells_cli.specs.Lines.{lines_of, IsNext, first_refused}
 use Rattle.cells_cli.specs.declared.replay.Stop.{Stop}
 use Rattle.cells_cli.specs.declared.replay.Stop.TheVariants.{Script, ReadFault, WriteFault, Memory}
-use Rattle.cells_cli.specs.Replay.{answer_to, map_after, line_answer, after_line, answers, after_lines, IsAnswered}
+use Rattle.cells_cli.specs.Replay.{answer_to, map_after, line_answer, after_line, answers, after_lines, NoneRefused, IsAnswered}
+use Rattle.cells_cli.specs.declared.lines.LineFault.{LineFault}
+use Rattle.cells_cli.specs.declared.lines.LineFault.TheVariants.{TooLong, TooMany, Read}
+use Rattle.cells_cli.specs.declared.lines.TheConstants.{LINES}
+use Rattle.claim_types.specs.declared.limits.TheConstants.{BODY}
+use Rattle.cells_cli.specs.Refused.{Refuses}
+use Rattle.cells_cli.specs.Stop.{stop_of}
+use Rattle.cells_cli.proofs.Refusals.{passes}
 
 module _ (registry : Registry) (s : ClaimMap) where
   pub empty_line : (line : List ℕ) → (length line == 0) ≡ true → ([] ≡ line_answer registry s line) × (s ≡ after_line registry s line)
@@ -77,27 +84,58 @@ module _ (registry : Registry) (start : ClaimMap) (lines : List (List ℕ)) (n :
           ∙ append_assoc before (answers registry start (take n lines)) (line_answer registry s line)
           ∙ ap (λ (bytes : List ℕ). before ++ bytes) all_more
 
-      part_more : (front : List ℕ) → IsPrefix front (line_answer registry s line) → now ≡ written ++ front → IsAnswered registry start lines (Err WriteFault) before now
-      part_more front is h = (
-        more,
-        answers registry start (take n lines) ++ front,
-        (is.0, sym all_more ∙ ap (λ (bytes : List ℕ). answers registry start (take n lines) ++ bytes) is.1 ∙ sym (append_assoc (answers registry start (take n lines)) front is.0)),
-        h ∙ ap (λ (bytes : List ℕ). bytes ++ front) done ∙ append_assoc before (answers registry start (take n lines)) front,
-      )
+      module _ (none : NoneRefused (take n lines)) (none_more : NoneRefused (take more lines)) where
+        part_more : (front : List ℕ) → IsPrefix front (line_answer registry s line) → now ≡ written ++ front → (bytes : List ℕ) × IsAnswered registry start lines (Err WriteFault) bytes × (now ≡ before ++ bytes)
+        part_more front is h = (
+          answers registry start (take n lines) ++ front,
+          (more, none_more, (is.0, sym all_more ∙ ap (λ (bytes : List ℕ). answers registry start (take n lines) ++ bytes) is.1 ∙ sym (append_assoc (answers registry start (take n lines)) front is.0))),
+          h ∙ ap (λ (bytes : List ℕ). bytes ++ front) done ∙ append_assoc before (answers registry start (take n lines)) front,
+        )
 
-      -- an answer that stopped
-      pub stopped : (stop : Stop) (r : Result (Unit {0}) Stop) → r ≡ Err stop → (r ≡ Err ReadFault → ⊥) × ((k : ℕ) → r ≡ Err (Script k) → ⊥)
-          → (r ≡ Err Memory → now ≡ written)
-          → (r ≡ Err WriteFault → (front : List ℕ) × IsPrefix front (line_answer registry s line) × (now ≡ written ++ front))
-          → IsAnswered registry start lines (Err stop) before now
-      stopped (Script k) r is others nothing part = absurd (others.1 k is)
-      stopped ReadFault r is others nothing part = absurd (others.0 is)
-      stopped WriteFault r is others nothing part = let p = part is in part_more p.0 p.1 p.2
-      stopped Memory r is others nothing part = (n, nothing is ∙ done)
+        -- an answer that stopped
+        pub stopped : (stop : Stop) (r : Result (Unit {0}) Stop) → r ≡ Err stop → (r ≡ Err ReadFault → ⊥) × ((k : ℕ) → r ≡ Err (Script k) → ⊥)
+            → (r ≡ Err Memory → now ≡ written ++ [])
+            → (r ≡ Err WriteFault → (front : List ℕ) × IsPrefix front (line_answer registry s line) × (now ≡ written ++ front))
+            → (bytes : List ℕ) × IsAnswered registry start lines (Err stop) bytes × (now ≡ before ++ bytes)
+        stopped (Script k) r is others nothing part = absurd (others.1 k is)
+        stopped ReadFault r is others nothing part = absurd (others.0 is)
+        stopped WriteFault r is others nothing part = let p = part is in part_more p.0 p.1 p.2
+        stopped Memory r is others nothing part = (answers registry start (take n lines), (n, none, refl), nothing is ∙ append-nil written ∙ done)
 
 -- no line is left
 pub all_done : (registry : Registry) (start : ClaimMap) (lines : List (List ℕ)) (n : ℕ) (before written : List ℕ) → drop n lines ≡ [] → written ≡ before ++ answers registry start (take n lines) → written ≡ before ++ answers registry start lines
 all_done registry start lines n before written end done = done ∙ ap (λ (ls : List (List ℕ)). before ++ answers registry start ls) (none_left n lines end)
+
+-- the lines were given no further: the one behind those that were given is refused, or could not be read
+pub not_given : (registry : Registry) (start : ClaimMap) (lines : List (List ℕ)) (n : ℕ) → NoneRefused (take n lines) → (fault : LineFault) → Refuses fault (first_refused BODY 0 lines)
+    → ((line : ℕ) → fault ≡ TooLong line → line ≡ n + 1) → (fault ≡ TooMany → n ≡ LINES) → IsAnswered registry start lines (Err (stop_of fault)) (answers registry start (take n lines))
+not_given registry start lines n none (TooLong line) refused long many = let before : n ≡ line - 1 = let is = long line refl in omega (arith, is) in (refused, ap (λ k. answers registry start (take k lines)) before)
+not_given registry start lines n none TooMany refused long many = let before : n ≡ LINES + 1 - 1 = let is = many refl in omega (arith, is) in (refused, ap (λ k. answers registry start (take k lines)) before)
+not_given registry start lines n none Read refused long many = (n, none, refl)
+
+-- a line that is given is not refused
+length_taken : (n : ℕ) (lines : List (List ℕ)) (line : List ℕ) (rest : List (List ℕ)) → drop n lines ≡ line ∷ rest → length (take n lines) ≡ n
+length_taken zero [] line rest h = refl
+length_taken zero (l ∷ ls) line rest h = refl
+length_taken (suc n) [] line rest h = absurd cc
+length_taken (suc n) (l ∷ ls) line rest h = let tail = length_taken n ls line rest h in omega (arith, tail)
+
+later_none : (b : Bool) (k : ℕ) (rest : Option ℕ) → cond b (Some k) rest ≡ None → (b ≡ false) × (rest ≡ None)
+later_none true k rest h = cc
+later_none false k rest h = (refl, h)
+
+one_more : (limit given : ℕ) (lines : List (List ℕ)) (line : List ℕ) → first_refused limit given lines ≡ None → length line ≤ limit → given + length lines < LINES → first_refused limit given (lines ++ line ∷ []) ≡ None
+one_more limit given [] line none short few = passes limit given line [] short (omega (arith, few))
+one_more limit given (l ∷ ls) line none short few =
+    let both = later_none (nat_lt limit (length l) || nat_le LINES given) (given + 1) (first_refused limit (given + 1) ls) none in
+    let fewer : given + 1 + length ls < LINES = omega (arith, few) in
+    ap (λ b. cond b (Some (given + 1)) (first_refused limit (given + 1) (ls ++ line ∷ []))) both.0 ∙ one_more limit (given + 1) ls line both.1 short fewer
+
+pub none_refused_more : (lines : List (List ℕ)) (n : ℕ) (line : List ℕ) (rest : List (List ℕ)) → drop n lines ≡ line ∷ rest → (more : ℕ) → more ≡ n + 1 → NoneRefused (take n lines) → length line ≤ BODY → n < LINES → NoneRefused (take more lines)
+none_refused_more lines n line rest ahead more counted none short few =
+    ap (λ k. first_refused BODY 0 (take k lines)) (counted ∙ add-one n)
+    ∙ ap (first_refused BODY 0) (next_take n lines line rest ahead)
+    ∙ one_more BODY 0 (take n lines) line none short (let taken = length_taken n lines line rest ahead in omega (arith, taken, few))
 
 -- what a reader says where it gave a line
 pub next_is : (some : Bool) (ahead line rest : List ℕ) → some ≡ true → IsNext ahead some line rest → lines_of ahead ≡ line ∷ lines_of rest

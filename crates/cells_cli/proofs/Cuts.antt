@@ -5,6 +5,7 @@ use Rattle.std.proofs.lemmas.Bool.{ltb-true}
 use Rattle.std.proofs.lemmas.Bool.Decides.{nat_tests}
 use Rattle.std.proofs.lemmas.Option.{cond_some}
 use Rattle.std.proofs.lemmas.List.{append-nil, length-take-le}
+use Rattle.cells_base.proofs.Truth.{not_picked}
 use Rattle.cells_cli.specs.Lines.{is_end, lines_of, StartsLong}
 
 one_more : (n : ℕ) → 1 + n ≡ suc n
@@ -57,13 +58,9 @@ lines_open (b ∷ bs) left none =
       | false ↦ λ goes. ap (onto_first b) (lines_open bs left (grind (arith, nat_tests)))
     ] none
 
-cond_none : (b : Bool) (x : ℕ) → cond b (Some x) None ≡ None → b ≡ false
-cond_none true x h = cc
-cond_none false x h = refl
-
 -- a line that has no end within the bytes
 pub cut_open : (b : ℕ) (p left : List ℕ) → position is_end (b ∷ p) ≡ None → lines_of ((b ∷ p) ++ left) ≡ (b ∷ (p ++ first_line (lines_of left))) ∷ later_lines (lines_of left)
-cut_open b p left h = lines_open (b ∷ p) left (cond_none _ _ h) ∙ joined_some b p (lines_of left)
+cut_open b p left h = lines_open (b ∷ p) left (not_picked _ _ None h).0 ∙ joined_some b p (lines_of left)
 
 -- the last line
 pub cut_last : (p : List ℕ) → position is_end p ≡ None → 0 < length p → lines_of (p ++ []) ≡ p ∷ []

@@ -4,5 +4,5 @@ pub mod Refusals
 pub mod Runs
 pub mod Answered
 pub mod Reported
-pub mod Commits
 pub mod Texts
+pub mod Bounds

@@ -1,18 +1,8 @@
--- Places in a text of which a front was sought, and in a buffer of which a front was filled.
+-- Places in a text of which a front was sought.
 use Rattle.std.proofs.Common.{◌≡◌, ℕ, ◌+◌, ◌≤◌, nat_lt, Bool, true, false, not, cond, Option, Some, None, position, List, [], ◌∷◌, ◌++◌, length, take, drop, refl, ap, sym, ◌∙◌, arith, length-take-le, take-add, take-take, take_at, drop_at, take-append-drop, length-append}
 use Rattle.std.specs.List.{position_or_len}
 use Rattle.std.proofs.lemmas.Bool.Decides.{nat_tests}
-use Rattle.std.proofs.lemmas.Slice.{take-put_mid}
-use borrow.Rule.Slice.PartMut.{put_mid}
-
--- a front that was kept, and bytes read behind it
-pub filled : (a k : ℕ) (xs ys : List ℕ) (n : ℕ) → a ≤ length xs → n ≤ length ys → take (a + n) (put_mid a k xs ys) ≡ take a xs ++ take n ys
-filled a k xs ys n within few =
-    let front = length-take-le a xs within in
-    sym (take-take (a + n) (a + length ys) (put_mid a k xs ys) (omega arith))
-    ∙ ap (take (a + n)) (take-put_mid a k xs ys (a + length ys) refl within)
-    ∙ take-add a n (take a xs ++ ys)
-    ∙ (λ i. take_at (take a xs) ys a front i ++ take n (drop_at (take a xs) ys a front i))
+use Rattle.cells_base.proofs.Truth.{not_picked}
 
 module _ (p : ℕ → Bool) where
   first_behind : (xs ys : List ℕ) → nat_lt (position_or_len p xs) (length xs) ≡ false → position_or_len p (xs ++ ys) ≡ length xs + position_or_len p ys
@@ -30,10 +20,6 @@ module _ (p : ℕ → Bool) where
   later n None = None
   later n (Some at) = Some (n + at)
 
-  cond_none : (b : Bool) (x : ℕ) → cond b (Some x) None ≡ None → b ≡ false
-  cond_none true x h = cc
-  cond_none false x h = refl
-
   same_test : (n a b : ℕ) → nat_lt (n + a) (n + b) ≡ nat_lt a b
   same_test n a b = grind (arith, nat_tests)
 
@@ -45,7 +31,7 @@ module _ (p : ℕ → Bool) where
   position_behind xs ys none =
       let n = length xs in
       let m = position_or_len p ys in
-      let at : position_or_len p (xs ++ ys) ≡ n + m = first_behind xs ys (cond_none _ _ none) in
+      let at : position_or_len p (xs ++ ys) ≡ n + m = first_behind xs ys (not_picked _ _ None none).0 in
       (λ i. cond (nat_lt (at i) (length-append xs ys i)) (Some (at i)) None)
       ∙ ap (λ b. cond b (Some (n + m)) None) (same_test n m (length ys))
       ∙ later_cond n (nat_lt m (length ys)) m

@@ -1,157 +1,157 @@
 -- What a report says, by how its answering stopped.
-use Rattle.std.proofs.Common.{Some, ◌≡◌, ◌≢◌, ◌⊎◌, inl, inr, ℕ, ◌-◌, List, [], ◌++◌, take, Result, Ok, Err, append_assoc, refl, sym, ◌∙◌, ap, subst}
+use Rattle.std.proofs.Common.{◌≡◌, ◌≢◌, ◌⊎◌, inl, inr, ℕ, zero, suc, ◌+◌, ◌-◌, ◌<◌, ◌||◌, Bool, true, false, cond, nat_lt, nat_le, List, [], ◌∷◌, ◌++◌, take, length, Option, Some, None, Result, Ok, Err, append_assoc, refl, sym, ◌∙◌, ap, subst, arith}
+use Rattle.std.proofs.lemmas.List.{append-nil}
 use Rattle.cells_edge.specs.Edge.{IsPrefix}
+use Rattle.claim_types.specs.declared.limits.TheConstants.{BODY}
+use Rattle.cells_cli.specs.declared.lines.TheConstants.{LINES}
 use Rattle.cells_cli.specs.declared.status.Status.{Status}
-use Rattle.cells_cli.specs.declared.status.Status.TheVariants.{End, Script, ReadFault, WriteFault, Memory}
+use Rattle.cells_cli.specs.declared.status.Status.TheVariants.{End, Usage, ConfigRegistry, ConfigRules, ConfigLacks, ConfigLong, Script, ReadFault, WriteFault, Memory, DiskFault, NotAJournal, BadEntry, FileInUse, Unheard, EpochsSpent}
 use Rattle.cells_cli.specs.declared.replay.Stop.{Stop}
 use Rattle.cells_cli.specs.declared.replay.Stop.TheVariants.{Script as ScriptStop, ReadFault as ReadStop, WriteFault as WriteStop, Memory as MemoryStop}
-use Rattle.cells_cli.specs.Service.{Start}
-use Rattle.cells_cli.specs.Replay.{IsAnswered}
-use Rattle.cells_cli.specs.Report.{status_of, last_line, replies_to, MayWrite, LeavesFront, EndsService}
-use Rattle.claim_types.specs.declared.limits.TheConstants.{BODY}
-use Rattle.cells_cli.specs.Lines.{first_refused}
-use Rattle.cells_cli.specs.Config.{Configures, status_of_config}
 use Rattle.cells_cli.specs.declared.config.ConfigFault.{ConfigFault}
 use Rattle.cells_cli.specs.declared.config.ConfigFault.TheVariants.{Read, Long, Refused, Memory as NoRoom}
+use Rattle.cells_cli.specs.Lines.{first_refused}
+use Rattle.cells_cli.specs.Service.{Start}
+use Rattle.cells_cli.specs.Config.{Configures, status_of_config}
+use Rattle.cells_cli.specs.Replay.{answers, NoneRefused, IsAnswered}
+use Rattle.cells_cli.specs.Report.{Asked, status_of, last_line, IsServed, IsWhole, IsFront, IsReport, EndsService, EndsAs}
+use Rattle.cells_cli.specs.Answering.{EndsAt}
 
--- where the sink did not fail, some first lines were answered
-some_answered : (start : Start) (lines : List (List ℕ)) (stop : Stop) (before mid : List ℕ) → stop ≢ WriteStop → IsAnswered start.registry start.map lines (Err stop) before mid → (n : ℕ) × (mid ≡ before ++ replies_to (Ok start) (take n lines))
-some_answered start lines (ScriptStop k) before mid other h = (k - 1, h)
-some_answered start lines ReadStop before mid other h = h
-some_answered start lines WriteStop before mid other h = absurd (other refl)
-some_answered start lines MemoryStop before mid other h = h
+-- the line that is refused is behind lines that are not
+later_some : (b : Bool) (n k : ℕ) (rest : Option ℕ) → cond b (Some n) rest ≡ Some k → ((b ≡ true) × (n ≡ k)) ⊎ ((b ≡ false) × (rest ≡ Some k))
+later_some true n k rest h = inl (refl, cc)
+later_some false n k rest h = inr (refl, h)
 
-pub stop_is_script : (stop : Stop) (k : ℕ) → Script k ≡ status_of stop → stop ≡ ScriptStop k
-stop_is_script (ScriptStop j) k h = let e : k ≡ j = cc in ap (λ n. ScriptStop n) (sym e)
-stop_is_script ReadStop k h = absurd cc
-stop_is_script WriteStop k h = absurd cc
-stop_is_script MemoryStop k h = absurd cc
-
-pub stop_is_read : (stop : Stop) → ReadFault ≡ status_of stop → stop ≡ ReadStop
-stop_is_read (ScriptStop j) h = absurd cc
-stop_is_read ReadStop h = refl
-stop_is_read WriteStop h = absurd cc
-stop_is_read MemoryStop h = absurd cc
-
-never_end : (stop : Stop) → End ≡ status_of stop → ⊥
-never_end (ScriptStop j) h = cc
-never_end ReadStop h = cc
-never_end WriteStop h = cc
-never_end MemoryStop h = cc
-
-stops_service : (stop : Stop) → EndsService (status_of stop)
-stops_service (ScriptStop j) = tt
-stops_service ReadStop = tt
-stops_service WriteStop = tt
-stops_service MemoryStop = tt
-
--- how a run ends that stopped so
-abbrev pub Ends : Stop → Status → Type 0
-Ends stop result = (result ≡ status_of stop) ⊎ ((result ≡ Memory) ⊎ (result ≡ WriteFault))
-
-module _ (stop : Stop) (result : Status) (ends : Ends stop result) where
-  pub is_own : (status : Status) → result ≡ status → status ≢ Memory → status ≢ WriteFault → status ≡ status_of stop
-  is_own status is m w = elim ends [
-    | inl own ↦ sym is ∙ own
-    | inr (inl memory) ↦ absurd (m (sym is ∙ memory))
-    | inr (inr write) ↦ absurd (w (sym is ∙ write))
-  ]
-
-  pub no_end : result ≡ End → ⊥
-  no_end h = never_end stop (is_own End h (λ e. cc) (λ e. cc))
-
-  pub own_script : (k : ℕ) → result ≡ Script k → stop ≡ ScriptStop k
-  own_script k h = stop_is_script stop k (is_own (Script k) h (λ e. cc) (λ e. cc))
-
-  pub own_read : result ≡ ReadFault → stop ≡ ReadStop
-  own_read h = stop_is_read stop (is_own ReadFault h (λ e. cc) (λ e. cc))
-
-  pub ends_service : EndsService result
-  ends_service = elim ends [
-    | inl own ↦ subst (EndsService) (sym own) (stops_service stop)
-    | inr (inl memory) ↦ subst (EndsService) (sym memory) tt
-    | inr (inr write) ↦ subst (EndsService) (sym write) tt
-  ]
-
-module _ (start : Start) (lines : List (List ℕ)) (stop : Stop) (before mid now : List ℕ) (other : stop ≢ WriteStop) (answered : IsAnswered start.registry start.map lines (Err stop) before mid) where
-  joined : (n : ℕ) (last : List ℕ) → mid ≡ before ++ replies_to (Ok start) (take n lines) → now ≡ mid ++ last → now ≡ before ++ (replies_to (Ok start) (take n lines) ++ last)
-  joined n last m h = h ∙ ap (λ (bytes : List ℕ). bytes ++ last) m ∙ append_assoc before (replies_to (Ok start) (take n lines)) last
-
-  pub some_lines : (last : List ℕ) → now ≡ mid ++ last → (n : ℕ) × (now ≡ before ++ (replies_to (Ok start) (take n lines) ++ last))
-  some_lines last h = let some = some_answered start lines stop before mid other answered in (some.0, joined some.0 last some.1 h)
-
-  pub script_lines : (k : ℕ) → stop ≡ ScriptStop k → (last : List ℕ) → now ≡ mid ++ last → now ≡ before ++ (replies_to (Ok start) (take (k - 1) lines) ++ last)
-  script_lines k is last h = joined (k - 1) last (subst (λ (s : Stop). IsAnswered start.registry start.map lines (Err s) before mid) is answered) h
-
-  at_front : (n : ℕ) (last : Status) (front : List ℕ) → IsPrefix front (last_line last) → IsPrefix (replies_to (Ok start) (take n lines) ++ front) (replies_to (Ok start) (take n lines) ++ last_line last)
-  at_front n last front is =
-      let replies = replies_to (Ok start) (take n lines) in
-      (is.0, ap (λ (bytes : List ℕ). replies ++ bytes) is.1 ∙ sym (append_assoc replies front is.0))
-
-  module _ (front : List ℕ) (end : now ≡ mid ++ front) where
-    fault_front : (last : Status) → ((report : List ℕ) (n : ℕ) → report ≡ replies_to (Ok start) (take n lines) ++ last_line last → MayWrite (Ok start) lines last report) → IsPrefix front (last_line last) → LeavesFront (Ok start) lines before now
-    fault_front last may is =
-        let some = some_answered start lines stop before mid other answered in (
-          last,
-          replies_to (Ok start) (take some.0 lines) ++ last_line last,
-          may (replies_to (Ok start) (take some.0 lines) ++ last_line last) some.0 refl,
-          replies_to (Ok start) (take some.0 lines) ++ front,
-          at_front some.0 last front is,
-          joined some.0 front some.1 end,
-        )
-
-    memory_front : IsPrefix front (last_line Memory) → LeavesFront (Ok start) lines before now
-    memory_front is = fault_front Memory (λ report n h. (n, h)) is
-
-    own_front : (which : Stop) → stop ≡ which → ((k : ℕ) → stop ≡ ScriptStop k → first_refused BODY 0 lines ≡ Some k) → IsPrefix front (last_line (status_of which)) → LeavesFront (Ok start) lines before now
-    own_front (ScriptStop k) same refused is = (
-      Script k,
-      replies_to (Ok start) (take (k - 1) lines) ++ last_line (Script k),
-      (refused k same, refl),
-      replies_to (Ok start) (take (k - 1) lines) ++ front,
-      at_front (k - 1) (Script k) front is,
-      script_lines k same front end,
-    )
-    own_front ReadStop same refused is = fault_front ReadFault (λ report n h. (n, h)) is
-    own_front WriteStop same refused is = absurd (other same)
-    own_front MemoryStop same refused is = memory_front is
-
-    pub some_front : (last : Status) → (last ≡ status_of stop) ⊎ (last ≡ Memory) → ((k : ℕ) → stop ≡ ScriptStop k → first_refused BODY 0 lines ≡ Some k) → IsPrefix front (last_line last) → LeavesFront (Ok start) lines before now
-    some_front last which refused is = elim which [
-      | inl own ↦ own_front stop refl refused (subst (λ (s : Status). IsPrefix front (last_line s)) own is)
-      | inr memory ↦ memory_front (subst (λ (s : Status). IsPrefix front (last_line s)) memory is)
+none_before : (given : ℕ) (lines : List (List ℕ)) (k : ℕ) → first_refused BODY given lines ≡ Some k → (n : ℕ) × (k ≡ given + n + 1) × (first_refused BODY given (take n lines) ≡ None)
+none_before given [] k h = cc
+none_before given (l ∷ ls) k h =
+    elim (later_some (nat_lt BODY (length l) || nat_le LINES given) (given + 1) k (first_refused BODY (given + 1) ls) h) [
+      | inl now ↦ (0, (let is = now.1 in omega (arith, is)), refl)
+      | inr later ↦
+          let rest = none_before (given + 1) ls k later.1 in (
+            suc rest.0,
+            (let is = rest.1 in omega (arith, is)),
+            ap (λ b. cond b (Some (given + 1)) (first_refused BODY (given + 1) (take rest.0 ls))) later.0 ∙ rest.2,
+          )
     ]
 
--- the sink failed in an answer, or in the one last line
-pub front_of_answers : (start : Start) (lines : List (List ℕ)) (before now : List ℕ) → IsAnswered start.registry start.map lines (Err WriteStop) before now → LeavesFront (Ok start) lines before now
-front_of_answers start lines before now h = (End, replies_to (Ok start) (take h.0 lines), (h.0, refl), h.1, h.2, h.3)
+none_first : (lines : List (List ℕ)) (k : ℕ) → first_refused BODY 0 lines ≡ Some k → NoneRefused (take (k - 1) lines)
+none_first lines k h =
+    let before = none_before 0 lines k h in
+    let place : before.0 ≡ k - 1 = let is = before.1 in omega (arith, is) in
+    subst (λ n. NoneRefused (take n lines)) place before.2
 
--- no line of these is answered
-none_first : (start : Result Start Status) (lines : List (List ℕ)) → replies_to start (take 0 lines) ≡ []
-none_first (Ok start) lines = refl
-none_first (Err status) lines = refl
+-- how a run ends whose answering stopped so, or that ends at once with a status
+abbrev pub EndsWith : Status → Status → Type 0
+EndsWith own result = (result ≡ own) ⊎ ((result ≡ Memory) ⊎ (result ≡ WriteFault))
 
-pub only_last : (start : Result Start Status) (lines : List (List ℕ)) (before now last : List ℕ) → now ≡ before ++ last → now ≡ before ++ (replies_to start (take 0 lines) ++ last)
-only_last start lines before now last h = h ∙ ap (λ (bytes : List ℕ). before ++ (bytes ++ last)) (sym (none_first start lines))
+not_write : (stop : Stop) → stop ≢ WriteStop → status_of stop ≢ WriteFault
+not_write (ScriptStop k) other h = cc
+not_write ReadStop other h = cc
+not_write WriteStop other h = other refl
+not_write MemoryStop other h = cc
+
+-- a report that could be written whole is one
+whole_report : (asked : Asked) (status : Status) (report : List ℕ) → status ≢ WriteFault → IsWhole asked.start asked.lines status report → IsReport asked status report
+whole_report asked End report other h = h
+whole_report asked Usage report other h = h
+whole_report asked (ConfigRegistry n) report other h = h
+whole_report asked (ConfigRules n) report other h = h
+whole_report asked (ConfigLacks cell) report other h = h
+whole_report asked ConfigLong report other h = h
+whole_report asked (Script k) report other h = h
+whole_report asked ReadFault report other h = h
+whole_report asked WriteFault report other h = absurd (other refl)
+whole_report asked Memory report other h = h
+whole_report asked (DiskFault file) report other h = h
+whole_report asked (NotAJournal file at) report other h = h
+whole_report asked (BadEntry file index) report other h = h
+whole_report asked (FileInUse file size) report other h = h
+whole_report asked Unheard report other h = h
+whole_report asked (EpochsSpent cell) report other h = h
+
+-- a last line behind some bytes, or a front of it
+module _ (asked : Asked) (bytes : List ℕ) (own : Status) (other : own ≢ WriteFault) (whole : IsWhole asked.start asked.lines own (bytes ++ last_line own)) (memory : IsWhole asked.start asked.lines Memory (bytes ++ last_line Memory)) where
+  front_of : (last : Status) (front : List ℕ) → IsWhole asked.start asked.lines last (bytes ++ last_line last) → IsPrefix front (last_line last) → IsFront asked.start asked.lines (bytes ++ front)
+  front_of last front all is = (last, bytes ++ last_line last, all, (is.0, ap (λ (b : List ℕ). bytes ++ b) is.1 ∙ sym (append_assoc bytes front is.0)))
+
+  front_either : (last : Status) (front : List ℕ) → (last ≡ own) ⊎ (last ≡ Memory) → IsPrefix front (last_line last) → IsFront asked.start asked.lines (bytes ++ front)
+  front_either last front which is = elim which [
+    | inl e ↦ front_of own front whole (subst (λ (s : Status). IsPrefix front (last_line s)) e is)
+    | inr e ↦ front_of Memory front memory (subst (λ (s : Status). IsPrefix front (last_line s)) e is)
+  ]
+
+  module _ (before mid now : List ℕ) (so_far : mid ≡ before ++ bytes) (result : Status) where
+    joined : (more : List ℕ) → now ≡ mid ++ more → now ≡ before ++ (bytes ++ more)
+    joined more h = h ∙ ap (λ (b : List ℕ). b ++ more) so_far ∙ append_assoc before bytes more
+
+    abbrev Is : Status → Type 0
+    Is status = (report : List ℕ) × IsReport asked status report × (now ≡ before ++ report)
+
+    pub reports : EndsWith own result → (result ≢ WriteFault → now ≡ mid ++ last_line result)
+        → (result ≡ WriteFault → (front : List ℕ) × ((last : Status) × ((last ≡ own) ⊎ (last ≡ Memory)) × IsPrefix front (last_line last)) × (now ≡ mid ++ front))
+        → Is result
+    reports ends told part = elim ends [
+      | inl e ↦
+          let line : now ≡ mid ++ last_line own = told (λ w. other (sym e ∙ w)) ∙ ap (λ (s : Status). mid ++ last_line s) e in
+          subst Is (sym e) (bytes ++ last_line own, whole_report asked own (bytes ++ last_line own) other whole, joined (last_line own) line)
+      | inr (inl e) ↦
+          let apart : Memory ≢ WriteFault = λ h. cc in
+          let line : now ≡ mid ++ last_line Memory = told (λ w. apart (sym e ∙ w)) ∙ ap (λ (s : Status). mid ++ last_line s) e in
+          subst Is (sym e) (bytes ++ last_line Memory, memory, joined (last_line Memory) line)
+      | inr (inr e) ↦ let p = part e in subst Is (sym e) (bytes ++ p.0, front_either p.1.0 p.0 p.1.1 p.1.2, joined p.0 p.2)
+    ]
+
+-- a run that answered lines
+module _ (start : Start) (lines : List (List ℕ)) (bytes : List ℕ) where
+  abbrev asked : Asked
+  asked = record { start = Ok start; lines = lines }
+
+  some_first : (stop : Stop) → stop ≢ WriteStop → IsAnswered start.registry start.map lines (Err stop) bytes → (n : ℕ) × NoneRefused (take n lines) × (bytes ≡ answers start.registry start.map (take n lines))
+  some_first (ScriptStop k) other h = (k - 1, none_first lines k h.0, h.1)
+  some_first ReadStop other h = h
+  some_first WriteStop other h = absurd (other refl)
+  some_first MemoryStop other h = h
+
+  with_memory : (stop : Stop) → stop ≢ WriteStop → IsAnswered start.registry start.map lines (Err stop) bytes → IsServed start lines Memory (bytes ++ last_line Memory)
+  with_memory stop other h = let some = some_first stop other h in (some.0, some.1, ap (λ (b : List ℕ). b ++ last_line Memory) some.2)
+
+  with_own : (stop : Stop) → stop ≢ WriteStop → IsAnswered start.registry start.map lines (Err stop) bytes → IsServed start lines (status_of stop) (bytes ++ last_line (status_of stop))
+  with_own (ScriptStop k) other h = (h.0, ap (λ (b : List ℕ). b ++ last_line (Script k)) h.1)
+  with_own ReadStop other h = (h.0, h.1, ap (λ (b : List ℕ). b ++ last_line ReadFault) h.2)
+  with_own WriteStop other h = absurd (other refl)
+  with_own MemoryStop other h = (h.0, h.1, ap (λ (b : List ℕ). b ++ last_line Memory) h.2)
+
+  -- the sink failed in an answer
+  pub fronts : IsAnswered start.registry start.map lines (Err WriteStop) bytes → IsFront (Ok start) lines bytes
+  fronts h =
+      let all = answers start.registry start.map (take h.0 lines) in
+      (Memory, all ++ last_line Memory, (h.0, h.1, refl), (h.2.0 ++ last_line Memory, ap (λ (b : List ℕ). b ++ last_line Memory) h.2.1 ∙ append_assoc bytes h.2.0 (last_line Memory)))
+
+  pub served : (stop : Stop) (other : stop ≢ WriteStop) → IsAnswered start.registry start.map lines (Err stop) bytes → (before mid now : List ℕ) → mid ≡ before ++ bytes → (result : Status) → EndsWith (status_of stop) result
+      → (result ≢ WriteFault → now ≡ mid ++ last_line result)
+      → (result ≡ WriteFault → (front : List ℕ) × ((last : Status) × ((last ≡ status_of stop) ⊎ (last ≡ Memory)) × IsPrefix front (last_line last)) × (now ≡ mid ++ front))
+      → (report : List ℕ) × IsReport asked result report × (now ≡ before ++ report)
+  served stop other h before mid now so_far result = reports asked bytes (status_of stop) (not_write stop other) (with_own stop other h) (with_memory stop other h) before mid now so_far result
 
 -- a run that ends before its lines: at what is refused, or at a fault of reading, or for want of memory
 abbrev pub EndsAtOnce : Result Start Status → Status → Type 0
 EndsAtOnce start last = (start ≡ Err last) ⊎ ((last ≡ ReadFault) ⊎ (last ≡ Memory))
 
-front_here : (start : Result Start Status) (lines : List (List ℕ)) (before now : List ℕ) (last : Status) (front : List ℕ) → EndsAtOnce start last → IsPrefix front (last_line last) → now ≡ before ++ front → LeavesFront start lines before now
-front_here (Ok start) lines before now last front once is h = elim once [
+only_line : (asked : Asked) (start : Result Start Status) → start ≡ asked.start → (last : Status) → EndsAtOnce start last → IsWhole start asked.lines last ([] ++ last_line last)
+only_line asked (Ok start) is last once = elim once [
   | inl apart ↦ absurd cc
-  | inr (inl read) ↦ (ReadFault, last_line ReadFault, (0, refl), front, subst (λ (s : Status). IsPrefix front (last_line s)) read is, h)
-  | inr (inr memory) ↦ (Memory, last_line Memory, (0, refl), front, subst (λ (s : Status). IsPrefix front (last_line s)) memory is, h)
+  | inr (inl read) ↦ subst (λ (s : Status). IsWhole (Ok start) asked.lines s (last_line s)) (sym read) (0, refl, refl)
+  | inr (inr memory) ↦ subst (λ (s : Status). IsWhole (Ok start) asked.lines s (last_line s)) (sym memory) (0, refl, refl)
 ]
-front_here (Err why) lines before now last front once is h = (last, last_line last, (elim once [ inl own ↦ inl (let e : why ≡ last = cc in sym e) | inr fault ↦ inr fault ], refl), front, is, h)
+only_line asked (Err why) is last once = ((elim once [ inl own ↦ inl (let e : why ≡ last = cc in sym e) | inr fault ↦ inr fault ]), refl)
 
--- the last line is that of the status, or of want of memory
-pub front_of_last : (start : Result Start Status) (lines : List (List ℕ)) (before now : List ℕ) (own last : Status) (front : List ℕ) → EndsAtOnce start own → (last ≡ own) ⊎ (last ≡ Memory) → IsPrefix front (last_line last) → now ≡ before ++ front → LeavesFront start lines before now
-front_of_last start lines before now own last front once which is h = elim which [
-  | inl same ↦ front_here start lines before now last front (subst (EndsAtOnce start) (sym same) once) is h
-  | inr memory ↦ front_here start lines before now last front (inr (inr memory)) is h
-]
+pub at_once : (asked : Asked) (own : Status) → own ≢ WriteFault → EndsAtOnce asked.start own → (before now : List ℕ) (result : Status) → EndsWith own result
+    → (result ≢ WriteFault → now ≡ before ++ last_line result)
+    → (result ≡ WriteFault → (front : List ℕ) × ((last : Status) × ((last ≡ own) ⊎ (last ≡ Memory)) × IsPrefix front (last_line last)) × (now ≡ before ++ front))
+    → (report : List ℕ) × IsReport asked result report × (now ≡ before ++ report)
+at_once asked own other once before now result =
+    reports asked [] own other (only_line asked asked.start refl own once) (only_line asked asked.start refl Memory (inr (inr refl))) before before now (sym (append-nil before)) result
 
 -- a configuration that gives no service
 pub config_ends : (fault : ConfigFault) (start : Result Start Status) → Configures (Err fault) start → EndsAtOnce start (status_of_config fault)
@@ -159,3 +159,53 @@ config_ends Read start told = inr (inl refl)
 config_ends Long start told = inl told
 config_ends (Refused n) start told = inl told
 config_ends NoRoom start told = inr (inr refl)
+
+pub config_other : (fault : ConfigFault) → status_of_config fault ≢ WriteFault
+config_other Read h = cc
+config_other Long h = cc
+config_other (Refused n) h = cc
+config_other NoRoom h = cc
+
+-- which statuses a run with a service may end with, and at what its answering stopped then
+pub stop_is_read : (stop : Stop) → ReadFault ≡ status_of stop → stop ≡ ReadStop
+stop_is_read (ScriptStop j) h = absurd cc
+stop_is_read ReadStop h = refl
+stop_is_read WriteStop h = absurd cc
+stop_is_read MemoryStop h = absurd cc
+
+stops_service : (stop : Stop) → EndsService (status_of stop)
+stops_service (ScriptStop j) = tt
+stops_service ReadStop = tt
+stops_service WriteStop = tt
+stops_service MemoryStop = tt
+
+module _ (stop : Stop) (result : Status) (ends : EndsWith (status_of stop) result) where
+  is_own : (status : Status) → result ≡ status → status ≢ Memory → status ≢ WriteFault → status ≡ status_of stop
+  is_own status is m w = elim ends [
+    | inl own ↦ sym is ∙ own
+    | inr (inl memory) ↦ absurd (m (sym is ∙ memory))
+    | inr (inr write) ↦ absurd (w (sym is ∙ write))
+  ]
+
+  pub own_read : result ≡ ReadFault → stop ≡ ReadStop
+  own_read h = stop_is_read stop (is_own ReadFault h (λ e. cc) (λ e. cc))
+
+  pub ends_service : EndsService result
+  ends_service = elim ends [
+    | inl own ↦ subst EndsService (sym own) (stops_service stop)
+    | inr (inl memory) ↦ subst EndsService (sym memory) tt
+    | inr (inr write) ↦ subst EndsService (sym write) tt
+  ]
+
+  own_lines : (other : Stop) → (script left : List ℕ) → EndsAt script left (Err other) → EndsAs script left (status_of other)
+  own_lines (ScriptStop k) script left h = h
+  own_lines ReadStop script left h = tt
+  own_lines WriteStop script left h = tt
+  own_lines MemoryStop script left h = tt
+
+  pub ends_lines : (script left : List ℕ) → EndsAt script left (Err stop) → EndsAs script left result
+  ends_lines script left h = elim ends [
+    | inl own ↦ subst (EndsAs script left) (sym own) (own_lines stop script left h)
+    | inr (inl memory) ↦ subst (EndsAs script left) (sym memory) tt
+    | inr (inr write) ↦ subst (EndsAs script left) (sym write) tt
+  ]

@@ -1,5 +1,6 @@
 -- What a run begins with, by its words and its configuration.
-use Rattle.std.specs.Prelude.{◌≡◌, ℕ, Bool, ◌&&◌, nat_lt, if◌then◌else◌, List, [], ◌∷◌, length, codes, Option, Some, None, Result, Ok, Err, String, string_bytes}
+use Rattle.std.specs.Prelude.{◌≡◌, ℕ, Bool, ◌&&◌, nat_lt, if◌then◌else◌, List, [], ◌∷◌, length, codes, Option, Some, None, Result, Ok, Err, String, IsTrue, string_bytes}
+use Rattle.cells_edge.specs.declared.source.Source.{Ghosts}
 use Rattle.std.specs.Str.{bytes_eq}
 use Rattle.std.specs.declared.alloc.Global.{Global}
 use Rattle.claim_map.specs.Registry.{Registry}
@@ -63,3 +64,7 @@ Configures (Err (Refused n)) start = start ≡ Err (ConfigRegistry n)
 Configures (Err Long) start = start ≡ Err ConfigLong
 Configures (Err Read) start = Unit {0}
 Configures (Err NoRoom) start = Unit {0}
+
+-- it does so for a command, where the configuration tells its bytes, if the command reads it
+abbrev pub ConfiguresAs : {A : Type 0} → Ghosts A → Command → A → Result Service ConfigFault → Type 0
+ConfiguresAs a command config result = (ReadsConfig (Some command) → IsTrue a.tells) → Configures result (begins (Some command) (a.left config))

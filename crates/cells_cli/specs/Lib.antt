@@ -1,5 +1,6 @@
 pub mod First
 pub mod Lines
+pub mod Ahead
 pub mod Refused
 pub mod Spans
 pub mod Service
@@ -7,4 +8,5 @@ pub mod Config
 pub mod Status
 pub mod Stop
 pub mod Replay
+pub mod Answering
 pub mod Report

@@ -1,9 +1,12 @@
--- What replay answers to the lines of its input, and its report.
-use Rattle.std.specs.Prelude.{◌≡◌, ℕ, ◌-◌, List, [], ◌∷◌, ◌++◌, take, Result, Ok, Err}
+-- What replay answers to the lines of its script.
+use Rattle.std.specs.Prelude.{◌≡◌, ℕ, ◌-◌, List, [], ◌∷◌, ◌++◌, take, Some, None, Result, Ok, Err}
+use Rattle.claim_types.specs.declared.limits.TheConstants.{BODY}
+use Rattle.cells_cli.specs.Lines.{first_refused}
 use Rattle.claim_types.specs.declared.message.Request.{Request}
 use Rattle.message_json.specs.declared.fault.BodyFault.{BodyFault}
-use Rattle.message_json.specs.Requests.{request_of}
-use Rattle.message_json.specs.Replies.{reply_text, fault_text}
+use Rattle.message_json.specs.RequestReader.{request_of}
+use Rattle.message_json.specs.ReplyWriter.{reply_text}
+use Rattle.message_json.specs.FaultWriter.{fault_text}
 use Rattle.cells_edge.specs.Edge.{IsPrefix}
 use Rattle.cells_cli.specs.declared.replay.Stop.{Stop}
 use Rattle.cells_cli.specs.declared.replay.Stop.TheVariants.{Script, ReadFault, WriteFault, Memory}
@@ -40,11 +43,15 @@ abbrev pub after_lines : Registry → ClaimMap → List (List ℕ) → ClaimMap
 after_lines registry s [] = s
 after_lines registry s (line ∷ lines) = after_lines registry (after_line registry s line) lines
 
+-- no line of these is refused
+abbrev pub NoneRefused : List (List ℕ) → Type 0
+NoneRefused lines = first_refused BODY 0 lines ≡ None
+
 -- what was written for these lines, by how the answering ended: all answers; those to the lines before the refused one; those to some
--- first lines; or a front of such
-abbrev pub IsAnswered : Registry → ClaimMap → List (List ℕ) → Result (Unit {0}) Stop → List ℕ → List ℕ → Type 0
-IsAnswered registry s lines (Ok done) before now = now ≡ before ++ answers registry s lines
-IsAnswered registry s lines (Err (Script k)) before now = now ≡ before ++ answers registry s (take (k - 1) lines)
-IsAnswered registry s lines (Err ReadFault) before now = (n : ℕ) × (now ≡ before ++ answers registry s (take n lines))
-IsAnswered registry s lines (Err Memory) before now = (n : ℕ) × (now ≡ before ++ answers registry s (take n lines))
-IsAnswered registry s lines (Err WriteFault) before now = (n : ℕ) × (front : List ℕ) × IsPrefix front (answers registry s (take n lines)) × (now ≡ before ++ front)
+-- first lines, none of which is refused; or a front of such
+abbrev pub IsAnswered : Registry → ClaimMap → List (List ℕ) → Result (Unit {0}) Stop → List ℕ → Type 0
+IsAnswered registry s lines (Ok done) bytes = NoneRefused lines × (bytes ≡ answers registry s lines)
+IsAnswered registry s lines (Err (Script k)) bytes = (first_refused BODY 0 lines ≡ Some k) × (bytes ≡ answers registry s (take (k - 1) lines))
+IsAnswered registry s lines (Err ReadFault) bytes = (n : ℕ) × NoneRefused (take n lines) × (bytes ≡ answers registry s (take n lines))
+IsAnswered registry s lines (Err Memory) bytes = (n : ℕ) × NoneRefused (take n lines) × (bytes ≡ answers registry s (take n lines))
+IsAnswered registry s lines (Err WriteFault) bytes = (n : ℕ) × NoneRefused (take n lines) × IsPrefix bytes (answers registry s (take n lines))

@@ -1,20 +1,17 @@
 -- The claim map of a service in memory.
-use Rattle.std.specs.Prelude.{◌≡◌, ℕ, [], ◌∷◌, codes, Option, Some, None, IsTrue, is_some, Result, Ok, Err}
-use Rattle.cells_base.specs.declared.memory.NoMemory.{NoMemory}
+use Rattle.std.specs.Prelude.{[], ◌∷◌, codes}
 use Rattle.claim_types.specs.declared.cell.Range.{Range}
 use Rattle.claim_types.specs.declared.cell.Cell.{Cell}
-use Rattle.claim_types.specs.declared.message.Request.{Request}
-use Rattle.claim_types.specs.declared.message.Request.TheVariants.{Begin, Commit, Rollback, List as ListRequest, Range as RangeRequest, Claims}
-use Rattle.claim_types.specs.declared.message.Reply.{Reply}
-use Rattle.claim_map.specs.Registry.{Registry, cell_of}
-use Rattle.claim_map.specs.State.{ClaimMap, opening, with_leases}
-use Rattle.claim_map.specs.Step.{after_any}
-use Rattle.claim_map.specs.Due.{Due}
+use Rattle.claim_map.specs.Bounds.{AreCells, IsWithinBounds}
+use Rattle.claim_map.specs.Registry.{Registry}
+use Rattle.claim_map.specs.State.{ClaimMap, opening}
+use Rattle.claim_laws.specs.Files.{map_of as kept_map}
+use Rattle.claim_service.specs.State.{kept}
 use Rattle.cells_cli.specs.declared.service.Service.{Service}
 
 -- nothing is recorded and there is no tree
 abbrev pub map_of : Service → ClaimMap
-map_of service = with_leases (opening service.ranges) service.leases
+map_of service = kept_map (kept service.state)
 
 -- a configuration, and a claim map
 pub record Start : Type 0 where
@@ -39,21 +36,7 @@ plain_start = record { registry = record { cells = only_cell ∷ []; threshold =
 abbrev pub configured_start : Registry → Start
 configured_start registry = record { registry = registry; map = opening [] }
 
--- the cell that a request is about; a request for a range is answered without it
-abbrev pub cell_asked : Request → Option ℕ
-cell_asked (Begin lease ops) = Some lease.cell
-cell_asked (Commit lease) = Some lease.cell
-cell_asked (Rollback lease) = Some lease.cell
-cell_asked (ListRequest cell after) = Some cell
-cell_asked (RangeRequest cell n) = None
-cell_asked (Claims cell bucket first last after) = Some cell
-
--- the configuration has this cell, if it is one
-abbrev pub Knows : Registry → Option ℕ → Type 0
-Knows registry None = Unit {0}
-Knows registry (Some cell) = IsTrue (is_some (cell_of registry cell))
-
--- the reply and the claim map after it are those that are due; where memory was wanted the map is as it was
-abbrev pub Answers : Due → ClaimMap → Result Reply NoMemory → ClaimMap → Type 0
-Answers due before (Ok reply) now = (reply ≡ due.reply) × (now ≡ after_any before due.step)
-Answers due before (Err error) now = now ≡ before
+-- the configuration and the claim map of a service are within bounds
+pub record KeepsBounds (service : Service) : Type 0 where
+  pub cells : AreCells service.registry
+  pub map : IsWithinBounds (map_of service)

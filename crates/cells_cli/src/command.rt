@@ -1,12 +1,9 @@
-ghost use Rattle.std.specs.Prelude.{◌≡◌, ◌≢◌, ◌-◌, take, ◌+◌, ◌≤◌, ◌++◌, [], ◌∷◌, ◌⊎◌, ℕ, List, IsTrue, IsOk, Some, None, Err, Ok, IfOk, OnErr, string_bytes};
-ghost use Rattle.cells_base.specs.Causes.{Rose};
-ghost use Rattle.cells_edge.specs.Edge.{IsPrefix};
+ghost use Rattle.std.specs.Prelude.{◌≡◌, ◌≢◌, ◌≤◌, ◌⊎◌, IsTrue, IfOk};
+ghost use Rattle.cells_edge.specs.Streams.{WritesAll, WritesFront, SinkFails, SourceFails};
 ghost use Rattle.claim_map.specs.State.{leases_of};
-ghost use Rattle.claim_map.specs.Writable.{IsWritable};
-ghost use Rattle.cells_cli.specs.Lines.{lines_of, first_refused};
-ghost use Rattle.cells_cli.specs.Config.{command_of, begins, ReadsConfig};
-ghost use Rattle.cells_cli.specs.Service.{map_of, start_with};
-ghost use Rattle.cells_cli.specs.Report.{last_line, replies_to, LeavesFront, IsRefused, EndsService, Ends};
+ghost use Rattle.cells_cli.specs.Config.{command_of, ReadsConfig};
+ghost use Rattle.cells_cli.specs.Service.{map_of, KeepsBounds};
+ghost use Rattle.cells_cli.specs.Report.{last_line, Reports, ReportsService, WritesFrontOf, IsRefused, StartsBy, EndsAs, CouldNotRead, EndsService, Ends};
 
 use crate::config::{ConfigFault, service_for};
 use crate::replay::{Stop, replay};
@@ -79,9 +76,9 @@ fn line_of(alloc: Global, status: Status) -> Result<Vec<u8>, NoMemory>
 fn put_last<W: Sink>(status: Status, line: &[u8], out: &mut W) -> Status
     requires { line.now ≡ last_line status }
     ensures ends { (result ≡ status) ⊎ (result ≡ Status.WriteFault) }
-    ensures told { IsTrue W.tells → result ≢ Status.WriteFault → W.written out.new ≡ W.written out.old ++ last_line status }
-    ensures part { IsTrue W.tells → (front : List ℕ) × IsPrefix front (last_line status) × (W.written out.new ≡ W.written out.old ++ front) }
-    ensures cause { result ≡ Status.WriteFault → status ≢ Status.WriteFault → Rose (W.faults out.old) (W.faults out.new) }
+    ensures told { result ≢ Status.WriteFault → WritesAll W.Sink out.old out.new (last_line status) }
+    ensures part { WritesFront W.Sink out.old out.new (last_line status) }
+    ensures cause { result ≡ Status.WriteFault → status ≢ Status.WriteFault → SinkFails W.Sink out.old out.new }
     ensures later { W.faults out.old ≤ W.faults out.new }
 {
     match write_all(out, line) {
@@ -90,13 +87,14 @@ fn put_last<W: Sink>(status: Status, line: &[u8], out: &mut W) -> Status
     }
 }
 
-// The same for a status whose last line has yet to be made, for which memory may be wanted.
-fn finish<W: Sink>(alloc: Global, status: Status, out: &mut W) -> Status
+/// Ends a report with the last line of a status. The status is another one where memory is wanting for
+/// that line, or where it cannot be written.
+pub fn finish<W: Sink>(alloc: Global, status: Status, out: &mut W) -> Status
     requires { status ≢ Status.WriteFault }
     ensures ends { (result ≡ status) ⊎ ((result ≡ Status.Memory) ⊎ (result ≡ Status.WriteFault)) }
-    ensures told { IsTrue W.tells → result ≢ Status.WriteFault → W.written out.new ≡ W.written out.old ++ last_line result }
-    ensures part { IsTrue W.tells → result ≡ Status.WriteFault → (last : Status) × ((last ≡ status) ⊎ (last ≡ Status.Memory)) × (front : List ℕ) × IsPrefix front (last_line last) × (W.written out.new ≡ W.written out.old ++ front) }
-    ensures cause { result ≡ Status.WriteFault → Rose (W.faults out.old) (W.faults out.new) }
+    ensures told { result ≢ Status.WriteFault → WritesAll W.Sink out.old out.new (last_line result) }
+    ensures part { result ≡ Status.WriteFault → WritesFrontOf W.Sink out.old out.new status }
+    ensures cause { result ≡ Status.WriteFault → SinkFails W.Sink out.old out.new }
 {
     match line_of(alloc, status) {
         Ok(line) => put_last(status, &line, out),
@@ -111,16 +109,11 @@ fn serve<B: Source, W: Sink>(
     script: &mut B,
     out: &mut W,
 ) -> Status
-    requires { IsWritable (leases_of (map_of service)) }
-    ensures end { IsTrue B.tells → IsTrue W.tells → result ≡ Status.End → W.written out.new ≡ W.written out.old ++ replies_to (Ok (start_with service)) (lines_of (B.left script.old)) }
-    ensures script { IsTrue B.tells → IsTrue W.tells → (k : ℕ) → result ≡ Status.Script k → W.written out.new ≡ W.written out.old ++ (replies_to (Ok (start_with service)) (take (k - 1) (lines_of (B.left script.old))) ++ last_line (Status.Script k)) }
-    ensures read { IsTrue B.tells → IsTrue W.tells → result ≡ Status.ReadFault → (n : ℕ) × (W.written out.new ≡ W.written out.old ++ (replies_to (Ok (start_with service)) (take n (lines_of (B.left script.old))) ++ last_line Status.ReadFault)) }
-    ensures memory { IsTrue B.tells → IsTrue W.tells → result ≡ Status.Memory → (n : ℕ) × (W.written out.new ≡ W.written out.old ++ (replies_to (Ok (start_with service)) (take n (lines_of (B.left script.old))) ++ last_line Status.Memory)) }
-    ensures write { IsTrue B.tells → IsTrue W.tells → result ≡ Status.WriteFault → LeavesFront (Ok (start_with service)) (lines_of (B.left script.old)) (W.written out.old) (W.written out.new) }
-    ensures end_cause { IsTrue B.tells → result ≡ Status.End → (B.left script.new ≡ []) × (first_refused BODY 0 (lines_of (B.left script.old)) ≡ None) }
-    ensures script_cause { IsTrue B.tells → (k : ℕ) → result ≡ Status.Script k → first_refused BODY 0 (lines_of (B.left script.old)) ≡ Some k }
-    ensures read_cause { result ≡ Status.ReadFault → Rose (B.faults script.old) (B.faults script.new) }
-    ensures write_cause { result ≡ Status.WriteFault → Rose (W.faults out.old) (W.faults out.new) }
+    requires { KeepsBounds service }
+    ensures report { ReportsService B.Source W.Sink service script.old out.old out.new result }
+    ensures lines { IsTrue B.tells → EndsAs (B.left script.old) (B.left script.new) result }
+    ensures read { result ≡ Status.ReadFault → SourceFails B.Source script.old script.new }
+    ensures write { result ≡ Status.WriteFault → SinkFails W.Sink out.old out.new }
     ensures statuses { EndsService result }
 {
     match replay(alloc, &mut service, script, out) {
@@ -144,21 +137,16 @@ pub fn run<A: Source, B: Source, W: Sink>(
     script: &mut B,
     out: &mut W,
 ) -> Status
-    // what was written: the answers to all lines, or to some first ones, and the last line
-    ensures end { IsTrue A.tells → IsTrue B.tells → IsTrue W.tells → result ≡ Status.End → W.written out.new ≡ W.written out.old ++ replies_to (begins (command_of words.now) (A.left config.old)) (lines_of (B.left script.old)) }
-    ensures script { IsTrue A.tells → IsTrue B.tells → IsTrue W.tells → (k : ℕ) → result ≡ Status.Script k → W.written out.new ≡ W.written out.old ++ (replies_to (begins (command_of words.now) (A.left config.old)) (take (k - 1) (lines_of (B.left script.old))) ++ last_line (Status.Script k)) }
-    ensures read { IsTrue A.tells → IsTrue B.tells → IsTrue W.tells → result ≡ Status.ReadFault → (n : ℕ) × (W.written out.new ≡ W.written out.old ++ (replies_to (begins (command_of words.now) (A.left config.old)) (take n (lines_of (B.left script.old))) ++ last_line Status.ReadFault)) }
-    ensures memory { IsTrue A.tells → IsTrue B.tells → IsTrue W.tells → result ≡ Status.Memory → (n : ℕ) × (W.written out.new ≡ W.written out.old ++ (replies_to (begins (command_of words.now) (A.left config.old)) (take n (lines_of (B.left script.old))) ++ last_line Status.Memory)) }
-    ensures refused { IsTrue W.tells → IsRefused result → W.written out.new ≡ W.written out.old ++ last_line result }
-    ensures write { IsTrue A.tells → IsTrue B.tells → IsTrue W.tells → result ≡ Status.WriteFault → LeavesFront (begins (command_of words.now) (A.left config.old)) (lines_of (B.left script.old)) (W.written out.old) (W.written out.new) }
+    // what was written
+    ensures report { Reports A.Source B.Source W.Sink words.now config.old script.old out.old out.new result }
+    ensures refused { IsRefused result → WritesAll W.Sink out.old out.new (last_line result) }
 
     // when each status comes; want of memory is free
-    ensures end_cause { IsTrue B.tells → result ≡ Status.End → (B.left script.new ≡ []) × (first_refused BODY 0 (lines_of (B.left script.old)) ≡ None) }
-    ensures script_cause { IsTrue B.tells → (k : ℕ) → result ≡ Status.Script k → first_refused BODY 0 (lines_of (B.left script.old)) ≡ Some k }
-    ensures begun_cause { IsTrue A.tells → (result ≡ Status.End) ⊎ ((k : ℕ) × (result ≡ Status.Script k)) → IsOk (begins (command_of words.now) (A.left config.old)) }
-    ensures refused_cause { IsTrue A.tells → IsRefused result → begins (command_of words.now) (A.left config.old) ≡ Err result }
-    ensures read_cause { result ≡ Status.ReadFault → (ReadsConfig (command_of words.now) × Rose (A.faults config.old) (A.faults config.new) × (script.new ≡ script.old) × (IsTrue W.tells → W.written out.new ≡ W.written out.old ++ last_line Status.ReadFault)) ⊎ Rose (B.faults script.old) (B.faults script.new) }
-    ensures write_cause { result ≡ Status.WriteFault → Rose (W.faults out.old) (W.faults out.new) }
+    ensures start { StartsBy A.Source words.now config.old result }
+    ensures lines { IsTrue B.tells → EndsAs (B.left script.old) (B.left script.new) result }
+    ensures read { result ≡ Status.ReadFault → CouldNotRead A.Source B.Source W.Sink words.now config.old config.new
+        script.old script.new out.old out.new }
+    ensures write { result ≡ Status.WriteFault → SinkFails W.Sink out.old out.new }
     ensures statuses { Ends (command_of words.now) result }
 
     // what is not read

@@ -1,18 +1,16 @@
 //! The configuration of a run, read as a whole.
 ghost use Rattle.std.specs.Prelude.{◌≡◌, ◌≤◌, ◌<◌, ◌+◌, ◌++◌, [], List, ℕ, IsTrue, length, take, IfOk, OnOk, Ok, Err, Some, ◌⊎◌, IsOk};
 ghost use Rattle.cells_base.specs.Causes.{HasCause, Rose};
-ghost use Rattle.cells_cli.specs.Config.{begins, configured, ReadsConfig, Configures};
+ghost use Rattle.cells_cli.specs.Config.{configured, ReadsConfig, Configures, ConfiguresAs};
 ghost use Rattle.claim_map.specs.State.{leases_of};
-ghost use Rattle.claim_map.specs.Writable.{IsWritable};
-ghost use Rattle.cells_cli.specs.Service.{map_of};
+ghost use Rattle.cells_cli.specs.Service.{map_of, KeepsBounds};
 ghost use Rattle.cells_cli.specs.declared.config.ConfigFault.TheVariants.{Read as ReadFailed, Memory as NoRoom};
 
 use crate::Service;
 use crate::command::Command;
-use crate::lines::read_behind;
 use cell_registry::Registry;
 use cells_base::NoMemory;
-use cells_edge::{Source, SourceFailed};
+use cells_edge::{Source, SourceFailed, read_front};
 use std::alloc::{AllocError, Global};
 
 /// The most bytes of a configuration.
@@ -55,25 +53,6 @@ impl From<NoMemory> for ConfigFault {
     }
 }
 
-// Reads until the buffer is full or the text ends, and answers how many bytes were read.
-fn read_front<S: Source>(buffer: &mut [u8], source: &mut S) -> Result<usize, SourceFailed>
-    ensures bound { IfOk result (λ end. end ≤ length buffer.new) }
-    ensures len { length buffer.new ≡ length buffer.old }
-    ensures bytes { IsTrue S.tells → IfOk result (λ end. take end buffer.new ++ S.left source.new ≡ S.left source.old) }
-    ensures end { IsTrue S.tells → IfOk result (λ end. end < length buffer.new → S.left source.new ≡ []) }
-    ensures cause { HasCause (S.faults source.old) (S.faults source.new) result }
-{
-    let mut end = 0;
-    while end < buffer.len() {
-        let to = read_behind(buffer, end, source)?;
-        if to == end {
-            return Ok(end);
-        }
-        end = to;
-    }
-    Ok(end)
-}
-
 // All bytes of a source, if they are no more than a configuration may have.
 fn read_text<S: Source>(alloc: Global, source: &mut S) -> Result<Vec<u8>, ConfigFault>
     ensures text { IsTrue S.tells → IfOk result (λ text. text.items ≡ S.left source.old) }
@@ -94,7 +73,7 @@ fn read_text<S: Source>(alloc: Global, source: &mut S) -> Result<Vec<u8>, Config
 fn configured<A: Source>(alloc: Global, config: &mut A) -> Result<Service, ConfigFault>
     ensures told { IsTrue A.tells → Configures result (configured (A.left config.old)) }
     ensures read { result ≡ Err ConfigFault.Read → Rose (A.faults config.old) (A.faults config.new) }
-    ensures writable { IfOk result (λ service. IsWritable (leases_of (map_of service))) }
+    ensures bounds { IfOk result (λ service. KeepsBounds service) }
 {
     let text = read_text(alloc, config)?;
     match Registry::read_toml(alloc, &text) {
@@ -112,10 +91,11 @@ pub fn service_for<A: Source>(
     command: Command,
     config: &mut A,
 ) -> Result<Service, ConfigFault>
-    ensures told { IsTrue A.tells → Configures result (begins (Some command) (A.left config.old)) }
-    ensures read { result ≡ Err ConfigFault.Read → ReadsConfig (Some command) × Rose (A.faults config.old) (A.faults config.new) }
+    ensures told { ConfiguresAs A.Source command config.old result }
+    ensures reads { result ≡ Err ConfigFault.Read → ReadsConfig (Some command) }
+    ensures read { result ≡ Err ConfigFault.Read → Rose (A.faults config.old) (A.faults config.new) }
     ensures plain { command ≡ Command.Replay → (result ≡ Err ConfigFault.Memory) ⊎ IsOk result }
-    ensures writable { IfOk result (λ service. IsWritable (leases_of (map_of service))) }
+    ensures bounds { IfOk result (λ service. KeepsBounds service) }
     ensures unread { (ReadsConfig (Some command) → ⊥) → config.new ≡ config.old }
 {
     match command {

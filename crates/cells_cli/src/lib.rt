@@ -12,6 +12,9 @@
 //! last line names its cause (`specs/Report`). What a run begins with is in `specs/Config`.
 //!
 //! The lines come as `specs/Lines` defines them, in whatever pieces the source gives its bytes.
+//!
+//! It stands on `message_json`, `classifier`, `lease_core`, `cell_registry` and `cells_edge`. The caller of
+//! [`run`] keeps nothing; that of [`finish`] gives a status which is no fault of writing.
 #![tactic(auto)]
 
 mod command;
@@ -25,7 +28,7 @@ mod status;
 #[cfg(test)]
 mod tests;
 
-pub use command::{Command, run};
+pub use command::{Command, finish, run};
 pub use config::{CONFIG_BYTES, ConfigFault};
 pub use lines::{LINES, LONGEST_LINE_BYTES, LineFault, LineReader};
 pub use service::Service;

@@ -1,13 +1,14 @@
 ghost use Rattle.std.specs.Prelude.{◌≡◌, ◌≢◌, ◌+◌, ◌-◌, ◌≤◌, ◌<◌, ◌++◌, [], ◌∷◌, IsTrue, List, ℕ, length, take, drop, true, false, if◌then◌else◌, IfOk, IfErr, IfSome, OnOk, OnErr, IsErrOf, position, None, Err};
 ghost use Rattle.cells_base.specs.Causes.{HasCause, Rose};
-ghost use Rattle.cells_cli.specs.Lines.{is_end, first_refused, lines_of, IsNext, StartsLong};
+ghost use Rattle.cells_cli.specs.Lines.{is_end};
+ghost use Rattle.cells_cli.specs.Ahead.{ahead, refused_ahead, GoesOn, EndsText, SameRefused, MayGive, IsTooLong};
 ghost use Rattle.cells_cli.specs.Spans.{IsWithin, bytes_at};
 ghost use Rattle.cells_cli.specs.First.{IsFirst};
 ghost use Rattle.cells_cli.specs.Refused.{Refuses};
 ghost use Rattle.cells_cli.specs.declared.lines.LineFault.TheVariants.{Read};
 
-use cells_base::NoMemory;
-use cells_edge::{Source, SourceFailed};
+use cells_base::{NoMemory, behind};
+use cells_edge::{Source, SourceFailed, read_behind};
 use std::alloc::Global;
 use std::marker::Model;
 
@@ -55,13 +56,6 @@ fn part(bytes: &[u8], span: Span) -> &[u8]
     &bytes[span.from..span.to]
 }
 
-fn behind(bytes: &[u8], at: usize) -> &[u8]
-    requires { at ≤ length bytes.now }
-    ensures { result.now ≡ drop at bytes.now }
-{
-    &bytes[at..]
-}
-
 fn first_end(bytes: &[u8]) -> Option<usize>
     ensures { result ≡ position is_end bytes.now }
 {
@@ -93,24 +87,6 @@ fn move_down(buffer: &mut [u8], span: Span) -> Span
         from: 0,
         to: span.to - span.from,
     }
-}
-
-// Reads once into the room behind the front of the buffer, and answers the longer front.
-pub fn read_behind<S: Source>(
-    buffer: &mut [u8],
-    end: usize,
-    source: &mut S,
-) -> Result<usize, SourceFailed>
-    requires { end < length buffer.old }
-    ensures kept { take end buffer.new ≡ take end buffer.old }
-    ensures grows { IfOk result (λ to. (end ≤ to) × (to ≤ length buffer.new)) }
-    ensures ahead { IsTrue S.tells → IfOk result (λ to. take to buffer.new ++ S.left source.new ≡ take end buffer.old ++ S.left source.old) }
-    ensures at_end { IsTrue S.tells → IfOk result (λ to. to ≡ end → S.left source.new ≡ []) }
-    ensures stays { IsTrue S.tells → OnErr result (S.left source.new ≡ S.left source.old) }
-    ensures cause { HasCause (S.faults source.old) (S.faults source.new) result }
-{
-    let count = source.read(&mut buffer[end..])?;
-    Ok(end + count)
 }
 
 // Reads once. Nothing comes only at the end.
@@ -271,19 +247,19 @@ impl LineReader {
 
     /// Goes on to the next line, or answers false at the end of the text.
     pub fn next<S: Source>(&mut self, source: &mut S) -> Result<bool, LineFault>
-        ensures next { IsTrue S.tells → IfOk result (λ some. IsNext (self.old.pending ++ S.left source.old) some self.new.line (self.new.pending ++ S.left source.new)) }
-        ensures end { IsTrue S.tells → IfOk result (λ some. some ≡ false → (lines_of (self.old.pending ++ S.left source.old) ≡ []) × (S.left source.new ≡ [])) }
+        ensures next { IsTrue S.tells → IfOk result (GoesOn S.Source self.old source.old self.new source.new) }
+        ensures end { IsTrue S.tells → IfOk result (EndsText S.Source self.old source.old source.new) }
         ensures counted { IfOk result (λ some. self.new.given ≡ (if some then self.old.given + 1 else self.old.given)) }
-        ensures short { IfOk result (λ some. IsTrue some → (self.old.given < LINES) × (length self.new.line ≤ self.old.limit)) }
-        ensures long { (line : ℕ) → IsErrOf result (LineFault.TooLong line) → (line ≡ self.old.given + 1) × (self.old.given < LINES) × ((left : List ℕ) → StartsLong self.old.limit (self.new.pending ++ left)) }
+        ensures short { IfOk result (λ some. IsTrue some → MayGive self.old self.new.line) }
+        ensures long { (line : ℕ) → IsErrOf result (LineFault.TooLong line) → IsTooLong self.old self.new line }
         ensures many { IsErrOf result LineFault.TooMany → (self.old.given ≡ LINES) × (self.new.pending ≢ []) }
         ensures read { IsErrOf result LineFault.Read → Rose (S.faults source.old) (S.faults source.new) }
         ensures later { S.faults source.old ≤ S.faults source.new }
-        ensures stays { IsTrue S.tells → OnErr result (self.new.pending ++ S.left source.new ≡ self.old.pending ++ S.left source.old) }
+        ensures stays { IsTrue S.tells → OnErr result (ahead S.Source self.new source.new ≡ ahead S.Source self.old source.old) }
         ensures given { OnErr result (self.new.given ≡ self.old.given) }
         ensures limit { self.new.limit ≡ self.old.limit }
-        ensures passed { IsTrue S.tells → IfOk result (λ some. first_refused self.old.limit self.old.given (lines_of (self.old.pending ++ S.left source.old)) ≡ first_refused self.new.limit self.new.given (lines_of (self.new.pending ++ S.left source.new))) }
-        ensures refused { IsTrue S.tells → IfErr result (λ fault. Refuses fault (first_refused self.old.limit self.old.given (lines_of (self.old.pending ++ S.left source.old)))) }
+        ensures passed { IsTrue S.tells → IfOk result (λ _. SameRefused S.Source self.old source.old self.new source.new) }
+        ensures refused { IsTrue S.tells → IfErr result (λ fault. Refuses fault (refused_ahead S.Source self.old source.old)) }
     {
         let buffer = self.buffer.as_mut_slice();
         if self.given == LINES {

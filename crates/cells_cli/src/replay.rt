@@ -1,15 +1,12 @@
 //! The command `replay`: requests as lines of JSON, answered by a service in memory.
 ghost use Rattle.std.specs.Prelude.{◌≡◌, ◌≢◌, ◌+◌, ◌≤◌, ◌<◌, ◌++◌, [], ◌∷◌, ℕ, List, None, Some, IsTrue, true, IfOk, OnOk, OnErr, IsErrOf, Ok, Err, length};
-ghost use Rattle.cells_base.specs.Causes.{Rose};
-ghost use Rattle.cells_edge.specs.Edge.{IsPrefix};
-ghost use Rattle.message_json.specs.Bounds.{IsRequest};
-ghost use Rattle.message_json.specs.Requests.{request_of};
+ghost use Rattle.cells_edge.specs.Streams.{WritesAll, WritesFront, SinkFails, SourceFails};
+ghost use Rattle.claim_types.specs.MessageBounds.{IsRequest};
+ghost use Rattle.message_json.specs.RequestReader.{request_of};
 ghost use Rattle.claim_map.specs.State.{leases_of};
-ghost use Rattle.claim_map.specs.Writable.{IsWritable};
-ghost use Rattle.claim_types.specs.Writable.{IsWritableRequest};
-ghost use Rattle.cells_cli.specs.Lines.{lines_of, first_refused};
-ghost use Rattle.cells_cli.specs.Service.{map_of};
-ghost use Rattle.cells_cli.specs.Replay.{answer_to, map_after, line_answer, after_line, IsAnswered};
+ghost use Rattle.cells_cli.specs.Service.{map_of, KeepsBounds};
+ghost use Rattle.cells_cli.specs.Replay.{answer_to, map_after, line_answer, after_line};
+ghost use Rattle.cells_cli.specs.Answering.{answer_of, AnswersLines, EndsAt};
 ghost use Rattle.cells_cli.specs.declared.replay.Stop.TheVariants.{Memory, WriteFault};
 
 use crate::lines::{LINES, LineFault, LineReader};
@@ -69,25 +66,24 @@ impl From<LineFault> for Stop {
 }
 
 fn reply_body(alloc: Global, service: &mut Service, request: Request) -> Result<Text, NoMemory>
-    requires map { IsWritable (leases_of (map_of service.old)) }
-    requires request { IsWritableRequest request }
+    requires map { KeepsBounds service.old }
     requires bounds { IsRequest request }
     ensures body { IfOk result (λ body. body ≡ answer_to service.old.registry (map_of service.old) (Ok request)) }
     ensures map { OnOk result (map_of service.new ≡ map_after service.old.registry (map_of service.old) (Ok request)) }
-    ensures writable { OnOk result (IsWritable (leases_of (map_of service.new))) }
+    ensures bounds { OnOk result (KeepsBounds service.new) }
     ensures registry { service.new.registry ≡ service.old.registry }
 {
-    let reply = service.answer(alloc, request)?;
+    let reply = service.answer(alloc, &request)?;
     let body = write_reply(alloc, &reply)?;
     Ok(body)
 }
 
 // The body that answers a line.
 fn answer_body(alloc: Global, service: &mut Service, line: &[u8]) -> Result<Text, NoMemory>
-    requires { IsWritable (leases_of (map_of service.old)) }
+    requires { KeepsBounds service.old }
     ensures body { IfOk result (λ body. body ≡ answer_to service.old.registry (map_of service.old) (request_of line.now)) }
     ensures map { OnOk result (map_of service.new ≡ map_after service.old.registry (map_of service.old) (request_of line.now)) }
-    ensures writable { OnOk result (IsWritable (leases_of (map_of service.new))) }
+    ensures bounds { OnOk result (KeepsBounds service.new) }
     ensures registry { service.new.registry ≡ service.old.registry }
 {
     match read_request(alloc, line) {
@@ -99,10 +95,10 @@ fn answer_body(alloc: Global, service: &mut Service, line: &[u8]) -> Result<Text
 
 // What is written for a line: nothing for an empty one, and else the body and LF.
 fn line_body(alloc: Global, service: &mut Service, line: &[u8]) -> Result<Vec<u8>, NoMemory>
-    requires { IsWritable (leases_of (map_of service.old)) }
+    requires { KeepsBounds service.old }
     ensures body { IfOk result (λ body. body.items ≡ line_answer service.old.registry (map_of service.old) line.now) }
     ensures map { OnOk result (map_of service.new ≡ after_line service.old.registry (map_of service.old) line.now) }
-    ensures writable { OnOk result (IsWritable (leases_of (map_of service.new))) }
+    ensures bounds { OnOk result (KeepsBounds service.new) }
     ensures registry { service.new.registry ≡ service.old.registry }
 {
     if line.is_empty() {
@@ -120,14 +116,14 @@ fn answer_line<W: Sink>(
     line: &[u8],
     out: &mut W,
 ) -> Result<(), Stop>
-    requires { IsWritable (leases_of (map_of service.old)) }
-    ensures told { IsTrue W.tells → OnOk result (W.written out.new ≡ W.written out.old ++ line_answer service.old.registry (map_of service.old) line.now) }
+    requires { KeepsBounds service.old }
+    ensures told { OnOk result (WritesAll W.Sink out.old out.new (answer_of service.old line.now)) }
     ensures map { OnOk result (map_of service.new ≡ after_line service.old.registry (map_of service.old) line.now) }
-    ensures writable { OnOk result (IsWritable (leases_of (map_of service.new))) }
+    ensures bounds { OnOk result (KeepsBounds service.new) }
     ensures registry { service.new.registry ≡ service.old.registry }
-    ensures nothing { IsTrue W.tells → result ≡ Err Stop.Memory → W.written out.new ≡ W.written out.old }
-    ensures part { IsTrue W.tells → result ≡ Err Stop.WriteFault → (front : List ℕ) × IsPrefix front (line_answer service.old.registry (map_of service.old) line.now) × (W.written out.new ≡ W.written out.old ++ front) }
-    ensures cause { result ≡ Err Stop.WriteFault → Rose (W.faults out.old) (W.faults out.new) }
+    ensures nothing { result ≡ Err Stop.Memory → WritesAll W.Sink out.old out.new [] }
+    ensures part { result ≡ Err Stop.WriteFault → WritesFront W.Sink out.old out.new (answer_of service.old line.now) }
+    ensures cause { result ≡ Err Stop.WriteFault → SinkFails W.Sink out.old out.new }
     ensures later { W.faults out.old ≤ W.faults out.new }
     ensures others { (result ≢ Err Stop.ReadFault) × ((k : ℕ) → result ≢ Err (Stop.Script k)) }
 {
@@ -144,13 +140,12 @@ fn answer_lines<S: Source, W: Sink>(
     script: &mut S,
     out: &mut W,
 ) -> Result<(), Stop>
-    requires writable { IsWritable (leases_of (map_of service.old)) }
-    requires fresh { (reader.old.given ≡ 0) × (reader.old.pending ≡ []) }
-    ensures told { IsTrue S.tells → IsTrue W.tells → IsAnswered service.old.registry (map_of service.old) (lines_of (S.left script.old)) result (W.written out.old) (W.written out.new) }
-    ensures whole { IsTrue S.tells → OnOk result ((S.left script.new ≡ []) × (first_refused reader.old.limit 0 (lines_of (S.left script.old)) ≡ None)) }
-    ensures script { IsTrue S.tells → (k : ℕ) → result ≡ Err (Stop.Script k) → first_refused reader.old.limit 0 (lines_of (S.left script.old)) ≡ Some k }
-    ensures read { result ≡ Err Stop.ReadFault → Rose (S.faults script.old) (S.faults script.new) }
-    ensures write { result ≡ Err Stop.WriteFault → Rose (W.faults out.old) (W.faults out.new) }
+    requires bounds { KeepsBounds service.old }
+    requires fresh { (reader.old.given ≡ 0) × (reader.old.pending ≡ []) × (reader.old.limit ≡ BODY) }
+    ensures told { AnswersLines S.Source W.Sink service.old script.old out.old out.new result }
+    ensures lines { IsTrue S.tells → EndsAt (S.left script.old) (S.left script.new) result }
+    ensures read { result ≡ Err Stop.ReadFault → SourceFails S.Source script.old script.new }
+    ensures write { result ≡ Err Stop.WriteFault → SinkFails W.Sink out.old out.new }
     ensures later { W.faults out.old ≤ W.faults out.new }
 {
     while reader.next(script)? {
@@ -166,12 +161,11 @@ pub fn replay<S: Source, W: Sink>(
     script: &mut S,
     out: &mut W,
 ) -> Result<(), Stop>
-    requires { IsWritable (leases_of (map_of service.old)) }
-    ensures told { IsTrue S.tells → IsTrue W.tells → IsAnswered service.old.registry (map_of service.old) (lines_of (S.left script.old)) result (W.written out.old) (W.written out.new) }
-    ensures whole { IsTrue S.tells → OnOk result ((S.left script.new ≡ []) × (first_refused BODY 0 (lines_of (S.left script.old)) ≡ None)) }
-    ensures script { IsTrue S.tells → (k : ℕ) → result ≡ Err (Stop.Script k) → first_refused BODY 0 (lines_of (S.left script.old)) ≡ Some k }
-    ensures read { result ≡ Err Stop.ReadFault → Rose (S.faults script.old) (S.faults script.new) }
-    ensures write { result ≡ Err Stop.WriteFault → Rose (W.faults out.old) (W.faults out.new) }
+    requires { KeepsBounds service.old }
+    ensures told { AnswersLines S.Source W.Sink service.old script.old out.old out.new result }
+    ensures lines { IsTrue S.tells → EndsAt (S.left script.old) (S.left script.new) result }
+    ensures read { result ≡ Err Stop.ReadFault → SourceFails S.Source script.old script.new }
+    ensures write { result ≡ Err Stop.WriteFault → SinkFails W.Sink out.old out.new }
     ensures later { W.faults out.old ≤ W.faults out.new }
 {
     let mut reader = LineReader::new(alloc, BODY as usize)?;

@@ -38,6 +38,30 @@ const LEASES_ANSWERS: &[u8] =
 {\"cell\":1,\"next\":2,\"number\":3,\"reply\":\"ranged\",\"result\":\"too_far\"}
 ";
 
+// A route that cell 1 holds, and where requests belong; the service has no page.
+const QUESTIONS: &[u8] = b"{\"ask\":\"classify\",\"by\":\"first\"}
+{\"ask\":\"begin\",\"creates\":[{\"bucket\":\"route\",\"row\":1,\"subject\":\"group\",\"subject_id\":1,\"table\":2,\"value\":\"acme\"}],\"destroys\":[],\"lease\":\"00010000-0001-8000-8000-000000000001\"}
+{\"ask\":\"classify\",\"by\":\"path\",\"text\":\"acme\"}
+{\"ask\":\"commit\",\"lease\":\"00010000-0001-8000-8000-000000000001\"}
+{\"ask\":\"classify\",\"by\":\"path\",\"text\":\"acme/x/y\"}
+{\"ask\":\"classify\",\"by\":\"path\",\"text\":\"acmex\"}
+{\"ask\":\"classify\",\"by\":\"claim\",\"bucket\":\"route\",\"value\":\"Acme\"}
+{\"ask\":\"classify\",\"by\":\"cell\",\"cell\":9}
+{\"ask\":\"page\",\"cell\":1,\"named\":true,\"path\":\"acme\"}
+";
+
+const QUESTIONS_ANSWERS: &[u8] =
+    b"{\"answer\":1,\"by\":\"first\",\"reply\":\"classified\",\"result\":\"cell\"}
+{\"lease\":\"00010000-0001-8000-8000-000000000001\",\"reply\":\"begun\",\"result\":\"ok\"}
+{\"by\":\"path\",\"reply\":\"classified\",\"result\":\"not_found\",\"text\":\"acme\"}
+{\"lease\":\"00010000-0001-8000-8000-000000000001\",\"reply\":\"committed\",\"result\":\"ok\"}
+{\"answer\":1,\"by\":\"path\",\"reply\":\"classified\",\"result\":\"cell\",\"text\":\"acme/x/y\"}
+{\"by\":\"path\",\"reply\":\"classified\",\"result\":\"not_found\",\"text\":\"acmex\"}
+{\"answer\":1,\"bucket\":\"route\",\"by\":\"claim\",\"reply\":\"classified\",\"result\":\"cell\",\"value\":\"acme\"}
+{\"by\":\"cell\",\"cell\":9,\"reply\":\"classified\",\"result\":\"unknown_cell\"}
+{\"cell\":1,\"reply\":\"no_cell\"}
+";
+
 // Three cells, and one range of each asked for.
 const CELLS: &[u8] =
     b"[[cell]]\nid = 1\nprefix = \"cell-1-\"\nwidth = 1000\n[[cell]]\nid = 2\nprefix = \"cell-2-\"\nwidth = 500\n[[cell]]\nid = 3\nprefix = \"cell-3-\"\nwidth = 1000\n";
@@ -107,6 +131,7 @@ fn answers_what_is_due(rt: HostRuntime) -> Result<(), Fail> {
         (PLAIN, b"".as_slice(), b"".as_slice(), b"".as_slice()),
         (PLAIN, b"", THREE, THREE_ANSWERS),
         (PLAIN, b"", LEASES, LEASES_ANSWERS),
+        (PLAIN, b"", QUESTIONS, QUESTIONS_ANSWERS),
         (REGISTRY, CELLS, RANGES, RANGES_ANSWERS),
     ];
     for (words, config, script, want) in rows {

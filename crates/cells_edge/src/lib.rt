@@ -1,7 +1,8 @@
 //! The streams of the outside, as traits: bytes that come in, and bytes that go out.
 //!
 //! - [`Source`] gives bytes in pieces of any size, and [`Sink`] takes them so. Each counts its faults,
-//!   and a call fails only where the count rose in it. [`write_all`] writes a piece to its end.
+//!   and a call fails only where the count rose in it. [`write_all`] writes a piece to its end, and
+//!   [`read_front`] reads a buffer full. `specs/Streams` has the words in which callers say what was written.
 //! - [`BytesSource`] and [`BytesSink`] are the forms in memory. Contracts see which bytes they hold,
 //!   and a test can cut the stream at every byte and let one call fail.
 //! - [`real`] has the forms over the readers and writers of std. Contracts know nothing of their bytes.
@@ -15,10 +16,11 @@
 //! Promised, for every source and sink that tells its bytes: no byte is lost, given twice or changed
 //! in order; a read that gives nothing into a buffer that is not empty found the end; a write takes at
 //! least one byte of a piece that is not empty; a call that fails leaves what a source has left, and
-//! leaves a sink with some front of the piece.
+//! leaves a sink with some front of the piece. It stands on `cells_base`; its caller keeps nothing.
 #![tactic(auto)]
 
 mod memory;
+mod pieces;
 pub mod real;
 mod sink;
 mod source;
@@ -26,5 +28,6 @@ mod source;
 mod tests;
 
 pub use memory::{BytesSink, BytesSource};
-pub use sink::{Sink, SinkFailed, write_all};
+pub use pieces::{read_behind, read_front, write_all};
+pub use sink::{Sink, SinkFailed};
 pub use source::{Source, SourceFailed};

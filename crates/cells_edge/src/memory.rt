@@ -5,23 +5,9 @@ ghost use Rattle.cells_edge.specs.Edge.{IsPrefix};
 ghost use Rattle.cells_edge.specs.Memory.{fails_now, one_less, given, read_failed, read_passed, taken, write_failed, write_filled, write_passed};
 
 use crate::{Sink, SinkFailed, Source, SourceFailed};
-use cells_base::{NoMemory, Text};
+use cells_base::{NoMemory, Text, behind, front};
 use std::alloc::Global;
 use std::marker::Model;
-
-fn behind(bytes: &[u8], at: usize) -> &[u8]
-    requires { at ≤ length bytes.now }
-    ensures { result.now ≡ drop at bytes.now }
-{
-    &bytes[at..]
-}
-
-fn front(bytes: &[u8], at: usize) -> &[u8]
-    requires { at ≤ length bytes.now }
-    ensures { result.now ≡ take at bytes.now }
-{
-    &bytes[..at]
-}
 
 fn least(a: usize, b: usize) -> usize
     ensures { result ≡ min a b }
@@ -173,7 +159,8 @@ impl Model for BytesSink {
 impl BytesSink {
     /// An empty sink with room for so many bytes.
     pub fn new(alloc: Global, room: usize) -> Result<Self, NoMemory>
-        ensures { IfOk result (λ s. s ≡ record { written = []; room = room; most = usize.MAX; passes = None; faults = 0 }) }
+        ensures { IfOk result (λ s.
+            s ≡ record { written = []; room = room; most = usize.MAX; passes = None; faults = 0 }) }
     {
         Ok(BytesSink {
             written: Vec::with_capacity(alloc, room)?,

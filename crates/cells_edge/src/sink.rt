@@ -28,24 +28,3 @@ pub trait Sink {
             (λ _. (front : List ℕ) × IsPrefix front bytes.now × (written self.new ≡ written self.old ++ front)) }
         ensures cause { HasCause (faults self.old) (faults self.new) result };
 }
-
-fn behind(bytes: &[u8], at: usize) -> &[u8]
-    requires { at ≤ length bytes.now }
-    ensures { result.now ≡ drop at bytes.now }
-{
-    &bytes[at..]
-}
-
-/// Writes all of the bytes. Where the sink fails, a front of them was written.
-pub fn write_all<W: Sink>(sink: &mut W, bytes: &[u8]) -> Result<(), SinkFailed>
-    ensures ok { IsTrue W.tells → OnOk result (W.written sink.new ≡ W.written sink.old ++ bytes.now) }
-    ensures err { IsTrue W.tells → OnErr result ((front : List ℕ) × IsPrefix front bytes.now × (W.written sink.new ≡ W.written sink.old ++ front)) }
-    ensures cause { HasCause (W.faults sink.old) (W.faults sink.new) result }
-{
-    let mut rest = bytes;
-    while !rest.is_empty() {
-        let count = sink.write(rest)?;
-        rest = behind(rest, count);
-    }
-    Ok(())
-}

@@ -22,7 +22,8 @@ pub trait Source {
     /// faults rose, and what is left then stays.
     fn read(&mut self, buf: &mut [u8]) -> Result<usize, SourceFailed>
         ensures bound { ReadsAtMost result buf.new }
-        ensures bytes { IsTrue tells → MatchResult result (λ n. left self.old ≡ take n buf.new ++ left self.new) (λ _. left self.new ≡ left self.old) }
+        ensures bytes { IsTrue tells → MatchResult result (λ n. left self.old ≡ take n buf.new ++ left self.new)
+            (λ _. left self.new ≡ left self.old) }
         ensures end { IsTrue tells → IfOk result (λ n. n ≡ 0 → 0 < length buf.new → left self.new ≡ []) }
         ensures cause { HasCause (faults self.old) (faults self.new) result };
 }

@@ -30,13 +30,13 @@ unrefused None h = refl
 unrefused (Some reason) h = absurd cc
 
 -- a lease whose begin is fresh is neither settled nor open, and nothing speaks against it
-pub record SaysFresh (s : LeaseState) (given : List Range) (lease : LeaseId) (ops : Operations) : Type 0 where
+pub record SaysFresh (s : LeaseState) (ranges : List Range) (lease : LeaseId) (ops : Operations) : Type 0 where
   pub settled : map.get s.settled lease ≡ None
-  pub begun : map.get s.begun lease ≡ None
-  pub reason : refusal_of s given lease ops ≡ None
+  pub closed : map.get s.open_leases lease ≡ None
+  pub reason : refusal_of s ranges lease ops ≡ None
 
-pub says_fresh : (s : LeaseState) (given : List Range) (lease : LeaseId) (ops : Operations) → verdict_of s given lease ops ≡ Fresh → SaysFresh s given lease ops
-says_fresh s given lease ops h =
+pub says_fresh : (s : LeaseState) (ranges : List Range) (lease : LeaseId) (ops : Operations) → verdict_of s ranges lease ops ≡ Fresh → SaysFresh s ranges lease ops
+says_fresh s ranges lease ops h =
     let settled = not_settled (map.get s.settled lease) _ h in
-    let begun = not_begun (map.get s.begun lease) ops _ settled.1 in
-    record { settled = settled.0; begun = begun.0; reason = unrefused (refusal_of s given lease ops) begun.1 }
+    let closed = not_begun (map.get s.open_leases lease) ops _ settled.1 in
+    record { settled = settled.0; closed = closed.0; reason = unrefused (refusal_of s ranges lease ops) closed.1 }

@@ -16,16 +16,19 @@ use Rattle.claim_types.specs.declared.verdict.Verdict.TheVariants.{Fresh, Again,
 use Rattle.claim_types.specs.declared.verdict.Denial.{Denial}
 use Rattle.claim_types.specs.declared.verdict.Denial.TheVariants.{Settled as DeniedSettled, OtherOperations as DeniedOtherOperations, NoneOrTooMany as DeniedCount, Twice as DeniedTwice, ForeignId as DeniedForeignId, TooManyOpen as DeniedTooManyOpen, Owned as DeniedOwned, Leased as DeniedLeased, NotOwned as DeniedNotOwned}
 use Rattle.claim_types.specs.declared.step.Step.{Step}
-use Rattle.claim_types.specs.declared.step.Step.TheVariants.{Leased as LeasedStep, Denied as DeniedStep, Committed as CommittedStep, RolledBack as RolledBackStep, Ranged}
+use Rattle.claim_types.specs.declared.step.Step.TheVariants.{Leased as LeasedStep, Denied as DeniedStep, Committed as CommittedStep, RolledBack as RolledBackStep, Ranged, Answered}
 use Rattle.claim_types.specs.declared.message.Request.{Request}
-use Rattle.claim_types.specs.declared.message.Request.TheVariants.{Begin, Commit, Rollback, List as ListRequest, Range as RangeRequest, Claims as ClaimsRequest}
+use Rattle.claim_types.specs.declared.message.Request.TheVariants.{Begin, Commit, Rollback, List as ListRequest, Range as RangeRequest, Claims as ClaimsRequest, Classify, Page}
 use Rattle.claim_types.specs.declared.message.BegunResult.TheVariants.{Good, Denied}
 use Rattle.claim_types.specs.declared.message.CommittedResult.TheVariants.{Good as CommittedGood, Unknown, WasRolledBack}
 use Rattle.claim_types.specs.declared.message.RolledBackResult.TheVariants.{Good as RolledBackGood, WasCommitted}
 use Rattle.claim_types.specs.declared.message.RangedResult.TheVariants.{Good as RangedGood, UnknownCell, TooFar, Exhausted}
 use Rattle.claim_types.specs.declared.message.Reply.{Reply}
-use Rattle.claim_types.specs.declared.message.Reply.TheVariants.{Begun, Committed as CommittedReply, RolledBack as RolledBackReply, Leases as LeasesReply, Ranged as RangedReply, Claims as ClaimsReply, NoCell}
+use Rattle.claim_types.specs.declared.message.Reply.TheVariants.{Begun, Committed as CommittedReply, RolledBack as RolledBackReply, Leases as LeasesReply, Ranged as RangedReply, Claims as ClaimsReply, Classified, NoCell}
+use Rattle.claim_types.specs.declared.question.Class.{Class}
+use Rattle.claim_types.specs.declared.question.Question.{Question}
 use Rattle.claim_map.specs.Registry.{Registry, cell_of}
+use Rattle.claim_map.specs.Classification.{class_of}
 use Rattle.claim_map.specs.Pages.{lease_page, claim_page}
 use Rattle.claim_map.specs.Ranges.{RangeVerdict, unknown_cell, kept, too_far, exhausted, fresh, range_verdict}
 use Rattle.claim_map.specs.State.{ClaimMap, leases_of}
@@ -78,6 +81,10 @@ range_due cell n (too_far next) = record { step = None; reply = RangedReply cell
 range_due cell n (exhausted last) = record { step = None; reply = RangedReply cell n (Exhausted last) }
 range_due cell n (fresh range) = record { step = Some (Ranged range); reply = RangedReply cell n (RangedGood range.low range.high) }
 
+-- what a question is owed
+abbrev pub classify_due : Question → Class → Due
+classify_due question class = record { step = Some (Answered question class); reply = Classified question class }
+
 -- a request that changes nothing is owed a reply alone
 abbrev pub told : Reply → Due
 told reply = record { step = None; reply = reply }
@@ -86,11 +93,13 @@ told reply = record { step = None; reply = reply }
 abbrev pub of_cell : Registry → ℕ → Due → Due
 of_cell registry cell due = if is_some (cell_of registry cell) then due else told (NoCell cell)
 
--- what a request is owed
+-- what a request is owed; the service has no page
 abbrev pub due : Registry → ClaimMap → Request → Due
-due registry s (Begin lease ops) = of_cell registry lease.cell (begin_due lease ops (verdict_of (leases_of s) s.given lease ops))
-due registry s (Commit lease) = of_cell registry lease.cell (commit_due lease (map.get s.begun lease) (map.get s.settled lease))
+due registry s (Begin lease ops) = of_cell registry lease.cell (begin_due lease ops (verdict_of (leases_of s) s.ranges lease ops))
+due registry s (Commit lease) = of_cell registry lease.cell (commit_due lease (map.get s.open_leases lease) (map.get s.settled lease))
 due registry s (Rollback lease) = of_cell registry lease.cell (rollback_due lease (map.get s.settled lease))
 due registry s (ListRequest cell last) = of_cell registry cell (told (LeasesReply cell (lease_page (leases_of s) cell last)))
-due registry s (RangeRequest cell n) = range_due cell n (range_verdict registry s.given cell n)
+due registry s (RangeRequest cell n) = range_due cell n (range_verdict registry s.ranges cell n)
 due registry s (ClaimsRequest cell bucket first last after) = of_cell registry cell (told (ClaimsReply cell bucket first last after (claim_page (leases_of s) cell bucket first last after)))
+due registry s (Classify question) = classify_due question (class_of registry s.holder question)
+due registry s (Page cell path named) = told (NoCell cell)

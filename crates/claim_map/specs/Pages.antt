@@ -22,12 +22,12 @@ is_above (Some last) lease = is_lt (lease_cmp last lease)
 
 -- the open leases of a cell above this one, in order
 abbrev pub leases_above : map.FinMap lease_cmp Operations → ℕ → Option LeaseId → List LeaseId
-leases_above begun cell last = filter (λ l. nat_eq l.cell cell && is_above last l) (map.keys begun)
+leases_above open_leases cell last = filter (λ l. nat_eq l.cell cell && is_above last l) (map.keys open_leases)
 
 -- the first page of them
 abbrev pub lease_page : LeaseState → ℕ → Option LeaseId → LeasePage
 lease_page s cell last =
-    let leases = leases_above s.begun cell last in
+    let leases = leases_above s.open_leases cell last in
     record { leases = take LEASES_A_PAGE leases; more = nat_lt LEASES_A_PAGE (length leases) }
 
 -- places by row, and then by key

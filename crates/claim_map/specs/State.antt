@@ -27,32 +27,32 @@ pub record Tree : Type 0 where
 -- ended; the ranges in the order of giving; each cell's tree
 pub record ClaimMap : Type 0 where
   pub holder : map.FinMap key_cmp Holding
-  pub begun : map.FinMap lease_cmp Operations
+  pub open_leases : map.FinMap lease_cmp Operations
   pub recorded : set.FinSet lease_cmp
   pub settled : map.FinMap lease_cmp How
-  pub given : List Range
+  pub ranges : List Range
   pub trees : map.FinMap nat_cmp Tree
 
 -- the part of it that is about leases alone
 pub record LeaseState : Type 0 where
   pub holder : map.FinMap key_cmp Holding
-  pub begun : map.FinMap lease_cmp Operations
+  pub open_leases : map.FinMap lease_cmp Operations
   pub settled : map.FinMap lease_cmp How
 
 abbrev pub leases_of : ClaimMap → LeaseState
-leases_of s = record { holder = s.holder; begun = s.begun; settled = s.settled }
+leases_of s = record { holder = s.holder; open_leases = s.open_leases; settled = s.settled }
 
 -- the claim map with another such part
 abbrev pub with_leases : ClaimMap → LeaseState → ClaimMap
-with_leases s leases = record s { holder = leases.holder; begun = leases.begun; settled = leases.settled }
+with_leases s leases = record s { holder = leases.holder; open_leases = leases.open_leases; settled = leases.settled }
 
 -- nobody holds a key, and no lease is open or has ended
 abbrev pub no_leases : LeaseState
-no_leases = record { holder = map.empty; begun = map.empty; settled = map.empty }
+no_leases = record { holder = map.empty; open_leases = map.empty; settled = map.empty }
 
 -- the empty claim map, but for the ranges that were given
 abbrev pub opening : List Range → ClaimMap
-opening given = record { holder = map.empty; begun = map.empty; recorded = set.empty; settled = map.empty; given = given; trees = map.empty }
+opening ranges = record { holder = map.empty; open_leases = map.empty; recorded = set.empty; settled = map.empty; ranges = ranges; trees = map.empty }
 
 -- no record, nothing used, never changed: the tree of a cell that the map lacks
 abbrev pub empty_tree : Tree
@@ -63,15 +63,15 @@ tree_of s cell = unwrap_or (map.get s.trees cell) empty_tree
 
 -- the ranges of a cell, in order
 abbrev pub ranges_of : List Range → ℕ → List Range
-ranges_of given cell = filter (λ r. nat_eq r.cell cell) given
+ranges_of ranges cell = filter (λ r. nat_eq r.cell cell) ranges
 
 -- whether an identifier lies in a range of the cell
 abbrev pub covers : List Range → ℕ → ℕ → Bool
-covers given cell id = list_any (λ r. nat_le r.low id && nat_le id r.high) (ranges_of given cell)
+covers ranges cell id = list_any (λ r. nat_le r.low id && nat_le id r.high) (ranges_of ranges cell)
 
 -- how a state of leases is stored
 abbrev pub lease_state_code : Coded LeaseState
 lease_state_code =
     code_by (map.FinMap key_cmp Holding × (map.FinMap lease_cmp Operations × map.FinMap lease_cmp How))
     (coded× (map.code key_type.the_row.coded holding_type.the_row.coded) (coded× (map.code lease_type.the_row.coded operations_type.the_row.coded) (map.code lease_type.the_row.coded how_type.the_row.coded)))
-    (λ s. (s.holder, (s.begun, s.settled))) (λ p. record { holder = p.0; begun = p.1.0; settled = p.1.1 }) (λ _. refl)
+    (λ s. (s.holder, (s.open_leases, s.settled))) (λ p. record { holder = p.0; open_leases = p.1.0; settled = p.1.1 }) (λ _. refl)

@@ -2,6 +2,7 @@
 use Rattle.std.specs.Prelude.{◌≡◌, ℕ, ◌+◌, Bool, true, not, ◌||◌, ◌==◌, nat_lt, nat_le, nat_eq, if◌then◌else◌, List, [], ◌∷◌, ◌++◌, length, Option, Some, None, option_map, count_by}
 use Rattle.std.specs.List.{list_any, find, Contains}
 use Rattle.std.specs.FinMap as map
+use Rattle.cells_base.specs.Options.{◌or_else◌}
 use Rattle.claim_types.specs.Order.{key_eq, operations_eq, lease_cmp}
 use Rattle.claim_types.specs.Operations.{keys_of, operation_count, AreWellFormed}
 use Rattle.claim_types.specs.declared.key.ClaimKey.{ClaimKey}
@@ -19,21 +20,15 @@ use Rattle.claim_types.specs.declared.limits.TheConstants.{OPERATIONS, OPEN_LEAS
 use Rattle.claim_map.specs.State.{LeaseState, covers}
 
 -- The claims are free for a lease: no claim of the operations is in anybody's way, and the rows are the cell's own.
-pub record IsFree (s : LeaseState) (given : List Range) (lease : LeaseId) (ops : Operations) : Type 0 where
+pub record IsFree (s : LeaseState) (ranges : List Range) (lease : LeaseId) (ops : Operations) : Type 0 where
   -- no created key is held
   pub unheld : (c : Create) → Contains ops.creates c → map.get s.holder c.key ≡ None
   -- each destroyed key is held by the lease's cell
   pub held_here : (key : ClaimKey) → Contains ops.destroys key → (h : Holding) × (map.get s.holder key ≡ Some h) × (h.cell ≡ lease.cell)
   -- no key stands in an open lease
-  pub unleased : (key : ClaimKey) → Contains (keys_of ops) key → (other : LeaseId) (theirs : Operations) → map.get s.begun other ≡ Some theirs → Contains (keys_of theirs) key → ⊥
+  pub unleased : (key : ClaimKey) → Contains (keys_of ops) key → (other : LeaseId) (theirs : Operations) → map.get s.open_leases other ≡ Some theirs → Contains (keys_of theirs) key → ⊥
   -- each create's row lies in a range given to the lease's cell
-  pub own_rows : (c : Create) → Contains ops.creates c → covers given lease.cell c.origin.row ≡ true
-
--- the first of two reasons, if there is one
-infixr 20 ◌or_else◌
-abbrev pub ◌or_else◌ : Option Refusal → Option Refusal → Option Refusal
-(Some reason) or_else other = Some reason
-None or_else other = other
+  pub own_rows : (c : Create) → Contains ops.creates c → covers ranges lease.cell c.origin.row ≡ true
 
 -- whether operations name a key, to create it or to destroy it
 abbrev pub names : Operations → ClaimKey → Bool
@@ -41,11 +36,11 @@ names ops key = list_any (λ k. key_eq k key) (keys_of ops)
 
 -- the first open lease, in the order of leases, that names a key
 abbrev pub lease_naming : map.FinMap lease_cmp Operations → ClaimKey → Option LeaseId
-lease_naming begun key = option_map (λ e. e.0) (find (λ e. names e.1 key) (map.entries begun))
+lease_naming open_leases key = option_map (λ e. e.0) (find (λ e. names e.1 key) (map.entries open_leases))
 
 -- how many leases of a cell are open
 abbrev pub open_count : map.FinMap lease_cmp Operations → ℕ → ℕ
-open_count begun cell = count_by (λ e. nat_eq e.0.cell cell) (map.entries begun)
+open_count open_leases cell = count_by (λ e. nat_eq e.0.cell cell) (map.entries open_leases)
 
 -- none, or more than a lease may carry
 abbrev pub wrong_number : ℕ → Option Refusal
@@ -59,7 +54,7 @@ first_repeated earlier (key ∷ keys) =
 
 -- the first create whose row lies in no range given to the cell
 abbrev pub foreign : List Range → ℕ → List Create → Option Refusal
-foreign given cell creates = option_map (λ c. ForeignId c.origin.row) (find (λ c. not (covers given cell c.origin.row)) creates)
+foreign ranges cell creates = option_map (λ c. ForeignId c.origin.row) (find (λ c. not (covers ranges cell c.origin.row)) creates)
 
 abbrev pub too_many_open : ℕ → Option Refusal
 too_many_open count = if nat_le OPEN_LEASES count then Some TooManyOpen else None
@@ -82,19 +77,19 @@ destroy_refusal cell (Some h) by at = if nat_eq h.cell cell then blocked_by by a
 -- the first of these operations that is refused, where the first of them stands at this place
 abbrev pub creates_refusal : LeaseState → ℕ → List Create → Option Refusal
 creates_refusal s at [] = None
-creates_refusal s at (c ∷ cs) = create_refusal (map.get s.holder c.key) (lease_naming s.begun c.key) at or_else creates_refusal s (at + 1) cs
+creates_refusal s at (c ∷ cs) = create_refusal (map.get s.holder c.key) (lease_naming s.open_leases c.key) at or_else creates_refusal s (at + 1) cs
 
 abbrev pub destroys_refusal : LeaseState → ℕ → ℕ → List ClaimKey → Option Refusal
 destroys_refusal s cell at [] = None
-destroys_refusal s cell at (k ∷ ks) = destroy_refusal cell (map.get s.holder k) (lease_naming s.begun k) at or_else destroys_refusal s cell (at + 1) ks
+destroys_refusal s cell at (k ∷ ks) = destroy_refusal cell (map.get s.holder k) (lease_naming s.open_leases k) at or_else destroys_refusal s cell (at + 1) ks
 
 -- why a lease that is neither open nor settled may not be opened: the first reason in this order
 abbrev pub refusal_of : LeaseState → List Range → LeaseId → Operations → Option Refusal
-refusal_of s given lease ops =
+refusal_of s ranges lease ops =
     wrong_number (operation_count ops)
     or_else option_map Twice (first_repeated [] (keys_of ops))
-    or_else foreign given lease.cell ops.creates
-    or_else too_many_open (open_count s.begun lease.cell)
+    or_else foreign ranges lease.cell ops.creates
+    or_else too_many_open (open_count s.open_leases lease.cell)
     or_else creates_refusal s 0 ops.creates
     or_else destroys_refusal s lease.cell (length ops.creates) ops.destroys
 
@@ -114,14 +109,14 @@ settled_before (Some how) otherwise = Refused (Settled how)
 
 -- what a begin comes to: the first that applies
 abbrev pub verdict_of : LeaseState → List Range → LeaseId → Operations → Verdict
-verdict_of s given lease ops =
+verdict_of s ranges lease ops =
     settled_before (map.get s.settled lease)
-    (begun_before (map.get s.begun lease) ops
-    (fresh_unless (refusal_of s given lease ops)))
+    (begun_before (map.get s.open_leases lease) ops
+    (fresh_unless (refusal_of s ranges lease ops)))
 
 -- a lease may be opened: it is new, and its operations are well formed with claims that are free
-pub record MayBegin (s : LeaseState) (given : List Range) (lease : LeaseId) (ops : Operations) : Type 0 where
+pub record MayBegin (s : LeaseState) (ranges : List Range) (lease : LeaseId) (ops : Operations) : Type 0 where
   pub unsettled : map.get s.settled lease ≡ None
-  pub closed : map.get s.begun lease ≡ None
+  pub closed : map.get s.open_leases lease ≡ None
   pub well_formed : AreWellFormed ops
-  pub free : IsFree s given lease ops
+  pub free : IsFree s ranges lease ops

@@ -13,7 +13,7 @@ module _ (lease : LeaseId) (is : IsLease lease) (bytes : List ℕ) (same : lease
   cell_in n h = h ∙ ap (λ bs. from_be_bytes w16 (two_at 0 bs)) (sym same) ∙ from_be_bytes-to_be_bytes_2 lease.cell (omega (arith, is.cell_most))
 
   pub epoch_in : (n : ℕ) → n ≡ from_be_bytes w32 (four_at 2 bytes) → n ≡ lease.epoch
-  epoch_in n h = h ∙ ap (λ bs. from_be_bytes w32 (four_at 2 bs)) (sym same) ∙ from_be_bytes-to_be_bytes_4 lease.epoch is.epoch_most
+  epoch_in n h = h ∙ ap (λ bs. from_be_bytes w32 (four_at 2 bs)) (sym same) ∙ from_be_bytes-to_be_bytes_4 lease.epoch (omega (arith, is.epoch_most))
 
   pub low_in : (n : ℕ) → n ≡ from_be_bytes w64 (eight_at 8 bytes) → n ≡ 2 ^ 63 + lease.attempt
   low_in n h = h ∙ ap (λ bs. from_be_bytes w64 (eight_at 8 bs)) (sym same) ∙ from_be_bytes-to_be_bytes_8 (2 ^ 63 + lease.attempt) (omega (arith, is.attempt_most))

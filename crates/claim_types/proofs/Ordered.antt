@@ -9,6 +9,7 @@ use Rattle.std.specs.declared.cmp.Ordering.TheVariants.{Less, Equal, Greater}
 use Rattle.std.specs.FinMap.{IsAntisymmetric, nat_cmp-IsAntisymmetric, slice_cmp-IsAntisymmetric}
 use Rattle.std.proofs.lemmas.Cmp.{nat_cmp_total, then_total, on_total}
 use Rattle.std.proofs.lemmas.Bool.Decides.{same_from_decides}
+use Rattle.cells_base.proofs.Truth.{is_equal}
 use Rattle.claim_types.specs.declared.key.Bucket.{Bucket}
 use Rattle.claim_types.specs.declared.key.Bucket.TheVariants.{OrganizationPath, Route, Address, SshKey, PagesDomain}
 use Rattle.claim_types.specs.declared.key.ClaimKey.{ClaimKey}
@@ -40,11 +41,6 @@ keys_exact a b h =
     let same_bucket : a.bucket ≡ b.bucket = sym (numbered-number a.bucket) ∙ ap numbered (nat_cmp-IsAntisymmetric (bucket_number a.bucket) (bucket_number b.bucket) both.0) ∙ numbered-number b.bucket in
     let same_value = slice_cmp-IsAntisymmetric nat_cmp-IsAntisymmetric a.value b.value both.1 in
     λ i. record { bucket = same_bucket i; value = same_value i }
-
-is_equal : (o : Ordering) → is_eq o ≡ true → o ≡ Equal
-is_equal Less h = cc
-is_equal Equal h = refl
-is_equal Greater h = cc
 
 -- a tie in the order is what the derived `==` says
 pub Decides-tie : (a b : ClaimKey) → Decides (eq_by_cmp key_cmp a b) (a ≡ b)

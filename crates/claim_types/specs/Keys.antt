@@ -10,7 +10,7 @@ use Rattle.claim_types.specs.declared.key.Bucket.TheVariants.{OrganizationPath, 
 use Rattle.claim_types.specs.declared.key.ClaimKey.{ClaimKey}
 use Rattle.claim_types.specs.declared.key.KeyFault.{KeyFault}
 use Rattle.claim_types.specs.declared.key.KeyFault.TheVariants.{Empty, TooLong, BadByte, BadSegment, Reserved, Memory}
-use Rattle.claim_types.specs.declared.limits.TheConstants.{KEY_BYTES}
+use Rattle.claim_types.specs.declared.limits.TheConstants.{KEY_BYTES, SEGMENT_BYTES, ROUTE_SEGMENTS, LABEL_BYTES, FEWEST_LABELS, MOST_LABELS, FINGERPRINT_DIGITS}
 
 -- a small letter or a digit
 abbrev pub is_plain : ℕ → Bool
@@ -46,7 +46,7 @@ ends_badly s = ends_with nat_eq s (codes ".") || ends_with nat_eq s (codes ".git
 
 -- a segment of a path: 1 to 63 bytes
 abbrev pub is_segment : List ℕ → Bool
-is_segment s = nat_le (length s) 63 && list_all is_segment_byte s && begins_well s && not (ends_badly s)
+is_segment s = nat_le (length s) SEGMENT_BYTES && list_all is_segment_byte s && begins_well s && not (ends_badly s)
 
 -- a label has small letters, digits and '-'
 abbrev pub is_label_byte : ℕ → Bool
@@ -54,7 +54,7 @@ is_label_byte b = is_plain b || b == byte "-"
 
 -- a label of a domain: 1 to 63 bytes, neither beginning nor ending with '-'
 abbrev pub is_label : List ℕ → Bool
-is_label s = nat_le 1 (length s) && nat_le (length s) 63 && list_all is_label_byte s && not (starts_with nat_eq s (codes "-")) && not (ends_with nat_eq s (codes "-"))
+is_label s = nat_le 1 (length s) && nat_le (length s) LABEL_BYTES && list_all is_label_byte s && not (starts_with nat_eq s (codes "-")) && not (ends_with nat_eq s (codes "-"))
 
 -- the parts of a bucket's value
 abbrev pub parts_of : Bucket → List ℕ → List (List ℕ)
@@ -69,24 +69,24 @@ abbrev pub is_part : Bucket → List ℕ → Bool
 is_part OrganizationPath part = is_segment part
 is_part Route part = is_segment part
 is_part Address part = true
-is_part SshKey part = length part == 64
+is_part SshKey part = length part == FINGERPRINT_DIGITS
 is_part PagesDomain part = is_label part
 
 -- how many parts a value has at least
-abbrev pub least_parts : Bucket → ℕ
-least_parts OrganizationPath = 1
-least_parts Route = 1
-least_parts Address = 1
-least_parts SshKey = 1
-least_parts PagesDomain = 2
+abbrev pub fewest_parts : Bucket → ℕ
+fewest_parts OrganizationPath = 1
+fewest_parts Route = 1
+fewest_parts Address = 1
+fewest_parts SshKey = 1
+fewest_parts PagesDomain = FEWEST_LABELS
 
 -- and at most
 abbrev pub most_parts : Bucket → ℕ
 most_parts OrganizationPath = 1
-most_parts Route = 20
+most_parts Route = ROUTE_SEGMENTS
 most_parts Address = 1
 most_parts SshKey = 1
-most_parts PagesDomain = 8
+most_parts PagesDomain = MOST_LABELS
 
 -- where the number of parts is wrong: the place of the first one too many, or of the one that is missing
 abbrev pub miscounted_at : ℕ → ℕ → ℕ → Option ℕ
@@ -94,7 +94,7 @@ miscounted_at least most n = if nat_lt most n then Some most else if nat_lt n le
 
 -- the first part that breaks its rule, among the most that a value may have; else the first one too many; else the one that is missing
 abbrev pub first_bad : Bucket → List (List ℕ) → Option ℕ
-first_bad bucket parts = option_or (position (λ part. not (is_part bucket part)) (take (most_parts bucket) parts)) (miscounted_at (least_parts bucket) (most_parts bucket) (length parts))
+first_bad bucket parts = option_or (position (λ part. not (is_part bucket part)) (take (most_parts bucket) parts)) (miscounted_at (fewest_parts bucket) (most_parts bucket) (length parts))
 
 -- the words that no path begins with
 abbrev pub reserved_words : List (List ℕ)

@@ -1,16 +1,16 @@
 -- The bits by which a UUID of version 8 names a lease.
-use Rattle.std.specs.Prelude.{◌≡◌, ℕ, ◌+◌, ◌-◌, ◌^◌, ◌<◌, ◌≤◌, Bool, ◌&&◌, nat_le, if◌then◌else◌, List, [], ◌∷◌, ◌++◌, Option, Some, None, slice_index}
+use Rattle.std.specs.Prelude.{◌≡◌, ℕ, ◌+◌, ◌-◌, ◌^◌, ◌≤◌, Bool, ◌&&◌, nat_le, if◌then◌else◌, List, [], ◌∷◌, ◌++◌, Option, Some, None, slice_index}
 use Rattle.std.specs.Int.{w16, w32, w64, to_be_bytes, from_be_bytes}
 use Rattle.std.specs.Str.{bytes_eq}
 use Rattle.claim_types.specs.declared.lease.LeaseId.{LeaseId}
-use Rattle.claim_types.specs.declared.limits.TheConstants.{GREATEST_CELL, GREATEST_ATTEMPT}
+use Rattle.claim_types.specs.declared.limits.TheConstants.{GREATEST_CELL, GREATEST_EPOCH, GREATEST_ATTEMPT}
 
 -- a lease within its bounds
 pub record IsLease (lease : LeaseId) : Type 0 where
   pub cell_least : 1 ≤ lease.cell
   pub cell_most : lease.cell ≤ GREATEST_CELL
   pub epoch_least : 1 ≤ lease.epoch
-  pub epoch_most : lease.epoch < 2 ^ 32
+  pub epoch_most : lease.epoch ≤ GREATEST_EPOCH
   pub attempt_least : 1 ≤ lease.attempt
   pub attempt_most : lease.attempt ≤ GREATEST_ATTEMPT
 

@@ -1,8 +1,10 @@
-pub mod Bounds
 pub mod Order
 pub mod Keys
 pub mod Leases
 pub mod Operations
+pub mod Bounds
+pub mod MessageBounds
+pub mod EntryBounds
 pub mod Writable
 pub mod Numbers
 pub mod Names

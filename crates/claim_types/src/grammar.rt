@@ -1,17 +1,15 @@
 //! The walk over a key's text, byte by byte.
-ghost use Rattle.std.specs.Prelude.{◌≡◌, ◌+◌, ◌<◌, ◌^◌, not, IfOk, map, take, position, length, if◌then◌else◌, nat_eq, codes, ◌||◌};
+ghost use Rattle.std.specs.Prelude.{◌≡◌, ◌+◌, ◌≤◌, not, IfOk, map, take, position, length, if◌then◌else◌, nat_eq, codes, ◌||◌};
 ghost use Rattle.std.specs.Char.{to_ascii_lowercase};
 ghost use Rattle.std.specs.List.{list_all, slice_split, before_first, count_by, starts_with, ends_with};
 ghost use Rattle.claim_types.specs.Keys as spec;
+ghost use Rattle.claim_types.specs.declared.limits.TheConstants.{KEY_BYTES, ROUTE_SEGMENTS, MOST_LABELS};
 
-use crate::{Bucket, NoMemory, Text};
+use crate::{
+    Bucket, FEWEST_LABELS, FINGERPRINT_DIGITS, LABEL_BYTES, MOST_LABELS, NoMemory, ROUTE_SEGMENTS,
+    SEGMENT_BYTES, Text,
+};
 use std::alloc::Global;
-
-// The most bytes of a segment or a label.
-const SEGMENT_BYTES: usize = 63;
-
-// How many digits a fingerprint has.
-const FINGERPRINT_DIGITS: usize = 64;
 
 pub fn lowered(alloc: Global, text: &[u8]) -> Result<Text, NoMemory>
     ensures { IfOk result (λ v. v ≡ map to_ascii_lowercase text.now) }
@@ -81,7 +79,7 @@ fn has_segment_bytes(segment: &[u8]) -> bool
 fn is_segment(segment: &[u8]) -> bool
     ensures { result ≡ spec.is_segment segment.now }
 {
-    if segment.len() > SEGMENT_BYTES {
+    if segment.len() as u64 > SEGMENT_BYTES {
         return false;
     }
     if !has_segment_bytes(segment) {
@@ -94,11 +92,11 @@ fn is_segment(segment: &[u8]) -> bool
 }
 
 fn bad_segment(value: &[u8]) -> Option<usize>
-    ensures { result ≡ position (λ part. not (spec.is_segment part)) (take 20 (slice_split spec.is_slash value.now)) }
+    ensures { result ≡ position (λ part. not (spec.is_segment part)) (take ROUTE_SEGMENTS (slice_split spec.is_slash value.now)) }
 {
     value
         .split(|b| *b == b'/')
-        .take(20)
+        .take(ROUTE_SEGMENTS as usize)
         .position(|part| !is_segment(part))
 }
 
@@ -114,7 +112,7 @@ fn is_label(label: &[u8]) -> bool
     if label.is_empty() {
         return false;
     }
-    if label.len() > SEGMENT_BYTES {
+    if label.len() as u64 > LABEL_BYTES {
         return false;
     }
     if !has_label_bytes(label) {
@@ -127,11 +125,11 @@ fn is_label(label: &[u8]) -> bool
 }
 
 fn bad_label(value: &[u8]) -> Option<usize>
-    ensures { result ≡ position (λ part. not (spec.is_label part)) (take 8 (slice_split spec.is_dot value.now)) }
+    ensures { result ≡ position (λ part. not (spec.is_label part)) (take MOST_LABELS (slice_split spec.is_dot value.now)) }
 {
     value
         .split(|b| *b == b'.')
-        .take(8)
+        .take(MOST_LABELS as usize)
         .position(|part| !is_label(part))
 }
 
@@ -142,7 +140,7 @@ fn slash_count(value: &[u8]) -> usize
 }
 
 fn segment_count(value: &[u8]) -> usize
-    requires { length value.now < 2 ^ 32 }
+    requires { length value.now ≤ KEY_BYTES }
     ensures { result ≡ length (slice_split spec.is_slash value.now) }
 {
     slash_count(value) + 1
@@ -155,38 +153,38 @@ fn dot_count(value: &[u8]) -> usize
 }
 
 fn label_count(value: &[u8]) -> usize
-    requires { length value.now < 2 ^ 32 }
+    requires { length value.now ≤ KEY_BYTES }
     ensures { result ≡ length (slice_split spec.is_dot value.now) }
 {
     dot_count(value) + 1
 }
 
 fn bad_route_part(value: &[u8]) -> Option<u64>
-    requires { length value.now < 2 ^ 32 }
+    requires { length value.now ≤ KEY_BYTES }
     ensures { result ≡ spec.first_bad Bucket.Route (slice_split spec.is_slash value.now) }
 {
     if let Some(index) = bad_segment(value) {
         return Some(index as u64);
     }
-    if segment_count(value) > 20 {
-        return Some(20);
+    if segment_count(value) as u64 > ROUTE_SEGMENTS {
+        return Some(ROUTE_SEGMENTS);
     }
     None
 }
 
 fn bad_domain_part(value: &[u8]) -> Option<u64>
-    requires { length value.now < 2 ^ 32 }
+    requires { length value.now ≤ KEY_BYTES }
     ensures { result ≡ spec.first_bad Bucket.PagesDomain (slice_split spec.is_dot value.now) }
 {
     if let Some(index) = bad_label(value) {
         return Some(index as u64);
     }
-    let count = label_count(value);
-    if count > 8 {
-        return Some(8);
+    let count = label_count(value) as u64;
+    if count > MOST_LABELS {
+        return Some(MOST_LABELS);
     }
-    if count < 2 {
-        return Some(count as u64);
+    if count < FEWEST_LABELS {
+        return Some(count);
     }
     None
 }
@@ -199,14 +197,14 @@ fn unless(good: bool) -> Option<u64>
 
 /// The index of the first part that is not what it has to be, or where the number is wrong.
 pub fn bad_part(bucket: Bucket, value: &[u8]) -> Option<u64>
-    requires { length value.now < 2 ^ 32 }
+    requires { length value.now ≤ KEY_BYTES }
     ensures { result ≡ spec.first_bad bucket (spec.parts_of bucket value.now) }
 {
     match bucket {
         Bucket::OrganizationPath => unless(is_segment(value)),
         Bucket::Route => bad_route_part(value),
         Bucket::Address => None,
-        Bucket::SshKey => unless(value.len() == FINGERPRINT_DIGITS),
+        Bucket::SshKey => unless(value.len() as u64 == FINGERPRINT_DIGITS),
         Bucket::PagesDomain => bad_domain_part(value),
     }
 }

@@ -13,7 +13,9 @@
 //! Promised: [`ClaimKey::read`] gives exactly the key, or the first refusal in order, that
 //! `specs/Keys` states for the whole text; [`LeaseId::to_uuid`] and [`LeaseId::from_uuid`] are
 //! exact both ways over the bits that `specs/Leases` states; keys and leases compare as `specs/Order`
-//! states ([`key_order`], [`lease_order`]), with the laws of these orders in `proofs/Ordered`.
+//! states ([`key_order`], [`lease_order`]), in total orders in which only equal ones tie. Which values,
+//! messages and entries are within bounds is stated once, in `specs/Bounds`, `specs/MessageBounds` and
+//! `specs/EntryBounds`.
 //! Everything else here is plain data.
 #![tactic(auto)]
 
@@ -29,6 +31,7 @@ mod order;
 mod page;
 mod question;
 mod record;
+mod rule;
 mod step;
 #[cfg(test)]
 mod tests;
@@ -40,8 +43,10 @@ pub use entry::{CellEntry, ServiceEntry};
 pub use key::{Bucket, ClaimKey, KeyFault};
 pub use lease::{Holding, How, LeaseId};
 pub use limits::{
-    BODY, CLAIMS_A_PAGE, GREATEST_ATTEMPT, GREATEST_CELL, GREATEST_IDENTIFIER, KEY_BYTES,
-    LEASES_A_PAGE, OPEN_LEASES, OPERATIONS,
+    ATTEMPTS_AND_ROWS, BODY, CLAIMS_A_PAGE, FEWEST_LABELS, FINGERPRINT_DIGITS, GREATEST_ATTEMPT,
+    GREATEST_CELL, GREATEST_EPOCH, GREATEST_IDENTIFIER, GREATEST_NUMBER, KEY_BYTES, LABEL_BYTES,
+    LEASES_A_PAGE, MOST_LABELS, NAME_BYTES, OPEN_LEASES, OPERATIONS, ROUTE_SEGMENTS, SEGMENT_BYTES,
+    TEXT_BYTES,
 };
 pub use message::{BegunResult, CommittedResult, RangedResult, Reply, Request, RolledBackResult};
 pub use operations::{Create, Creates, Keys, Operations, Origin, Subject};
@@ -49,5 +54,6 @@ pub use order::{key_order, lease_order};
 pub use page::{ClaimItem, ClaimItems, ClaimPage, LeaseIds, LeasePage};
 pub use question::{Class, Question};
 pub use record::{Change, Kind, Record};
+pub use rule::{Attempt, Ended, Note, Rule};
 pub use step::{Step, Transition};
 pub use verdict::{Denial, Refusal, Verdict};

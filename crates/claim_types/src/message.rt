@@ -1,4 +1,4 @@
-use crate::{Bucket, ClaimPage, Denial, LeaseId, LeasePage, Operations};
+use crate::{Bucket, ClaimPage, Class, Denial, LeaseId, LeasePage, Operations, Question, Text};
 
 /// A request to the service.
 #[derive(Debug, Drop)]
@@ -34,6 +34,16 @@ pub enum Request {
         first: u64,
         last: u64,
         after: u64,
+    },
+    /// Asks where a request belongs.
+    Classify {
+        question: Question,
+    },
+    /// Asks a cell for the page of a path: for the record that the path names, where it names one.
+    Page {
+        cell: u16,
+        path: Text,
+        named: bool,
     },
 }
 
@@ -111,7 +121,21 @@ pub enum Reply {
         after: u64,
         page: ClaimPage,
     },
-    /// To a request of a cell that the configuration lacks.
+    /// To a question.
+    Classified {
+        question: Question,
+        class: Class,
+    },
+    /// To a request for a page: the identifier of the record that a named path leads to, 0 for a path
+    /// that names none, and nothing where no record was found.
+    Page {
+        cell: u16,
+        path: Text,
+        named: bool,
+        found: Option<u64>,
+    },
+    /// To a request of a cell that the configuration lacks, and to a request for a page from the
+    /// service, which has none.
     NoCell {
         cell: u16,
     },

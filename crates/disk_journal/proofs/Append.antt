@@ -1,100 +1,113 @@
 -- The four calls of an append, over the disks before and after each.
-use Rattle.std.proofs.Common.{◌≡◌, inl, ℕ, ◌+◌, List, [], ◌∷◌, ◌++◌, length, sym, ◌∙◌, subst, arith, length-append}
-use Rattle.disk_journal.specs.Disk.{Image, Outcomes, IsImage, NoMore, Only, Steps, SameEverywhere, Holds, Torn, Elapses, LeavesOnly}
-use Rattle.disk_journal.specs.Journal.{header, framed, IsBody, JournalState, IsAtRest, IsSettled, IsBeforeOrAfter}
-use Rattle.disk_journal.proofs.Moments.{UpTo, started, goes_on, no_more}
+use Rattle.std.proofs.Common.{◌≡◌, ◌≢◌, ◌⊎◌, inl, ℕ, ◌+◌, List, [], ◌∷◌, ◌++◌, length, refl, sym, ◌∙◌, subst, arith, length-append}
+use Rattle.std.specs.Prelude.{Result, Ok, Err, OnErr}
+use Rattle.disk_journal.specs.Disk.{NoMore, Only, Steps, SameEverywhere, Holds, Torn}
+use Rattle.disk_journal.specs.Moments.{LeftOnly}
+use Rattle.disk_journal.specs.Journal.{header, framed, IsBody, IsJournal, JournalState, EndsAt}
+use Rattle.disk_journal.specs.Effects.{IsSettled, IsAppending, IsBodyInDoubt}
+use Rattle.disk_journal.specs.declared.disk.Disk.{Ghosts}
+use Rattle.disk_journal.proofs.Moments.{Goes, OnlyNow, SeenMayStay, started, goes_on}
+use Rattle.disk_journal.proofs.Settled.{settled_content}
 use Rattle.disk_journal.proofs.Writing.{length-framed, records_push, torn_behind, written_behind, torn_gate, written_gate, longer, any_gate}
 
-module _ {D : Type 0} (moment : D → ℕ) (left_since : D → ℕ → Image → Type 0) (seen : D → Image) (may_leave : D → Outcomes)
-    (only_now : (d : D) (img : Image) → left_since d (moment d) img → IsImage (may_leave d) img)
-    (opened journal : JournalState) (same_journal : opened ≡ journal) (bodies : List (List ℕ)) (body : List ℕ) (fits : IsBody body) (d0 : D) (at_start : IsSettled (seen d0) (may_leave d0) journal bodies) where
+-- what holds whatever was answered
+pub on_err : {T E P : Type 0} (result : Result T E) → P → OnErr result P
+on_err (Ok x) p = tt
+on_err (Err e) p = p
+
+module _ {D : Type 0} (g : Ghosts D) (only_now : OnlyNow g) (seen_may_stay : SeenMayStay g)
+    (opened journal : JournalState) (same_journal : opened ≡ journal) (bodies : List (List ℕ)) (body : List ℕ) (fits : IsBody body) (d0 : D) (at_start : IsSettled g d0 journal bodies) where
   abbrev file : ℕ
   file = opened.file
 
   abbrev gate : ℕ
   gate = opened.gate
 
-  s : IsSettled (seen d0) (may_leave d0) opened bodies
-  s = subst (λ j. IsSettled (seen d0) (may_leave d0) j bodies) (sym same_journal) at_start
-
-  abbrev During : JournalState → D → Type 0
-  During j d = LeavesOnly moment left_since d0 d (IsBeforeOrAfter (may_leave d0) j.file bodies body)
-
-  during : (d : D) → During opened d → During journal d
-  during d so_far = subst (λ j. During j d) same_journal so_far
+  s : IsSettled g d0 opened bodies
+  s = subst (λ j. IsSettled g d0 j bodies) (sym same_journal) at_start
 
   abbrev tail : List ℕ
   tail = framed body ++ 0 ∷ []
 
-  abbrev Run : D → Type 0
-  Run d = UpTo moment left_since may_leave d0 d (IsBeforeOrAfter (may_leave d0) file bodies body)
+  abbrev Either : List ℕ → Type 0
+  Either c = IsJournal c bodies ⊎ IsJournal c (bodies ++ body ∷ [])
 
-  abbrev Goes : D → D → Type 0
-  Goes d new = Elapses (moment d) (moment new) (left_since d) (left_since new) (may_leave new)
+  -- up to this disk each crash left the bodies or these with the new one, and so does one now
+  pub record Run (d : D) : Type 0 where
+    pub so_far : LeftOnly g d0 d (IsAppending g d0 file bodies body)
+    pub own : (c : List ℕ) → g.may_leave d file c → Either c
+    pub others : (q : ℕ) → q ≢ file → (c : List ℕ) → g.may_leave d q c → g.may_leave d0 q c
+
+  step : (d new : D) → Run d → Goes g d new → ((c : List ℕ) → g.may_leave new file c → Either c) → ((q : ℕ) → q ≢ file → (c : List ℕ) → g.may_leave new q c → g.may_leave d q c) → Run new
+  step d new run time own others = record {
+    so_far = goes_on g d0 d new _ run.so_far time (λ img is. record { own = own (img file) (is file); others = λ q apart. run.others q apart (img q) (others q apart (img q) (is q)) });
+    own = own;
+    others = λ q apart c may. run.others q apart c (others q apart c may);
+  }
+
+  same : (d new : D) → Run d → Goes g d new → NoMore (g.may_leave d) (g.may_leave new) → Run new
+  same d new run time less = step d new run time (λ c may. run.own c (less file c may)) (λ q apart c may. less q c may)
+
+  -- what a run says of the journal as the caller knows it
+  pub during : (d : D) → Run d → LeftOnly g d0 d (IsAppending g d0 journal.file bodies body)
+  during d run = subst (λ j. LeftOnly g d0 d (IsAppending g d0 j.file bodies body)) same_journal run.so_far
+
+  pub in_doubt : (d : D) → Run d → IsBodyInDoubt g d journal.file bodies body
+  in_doubt d run = subst (λ j. IsBodyInDoubt g d j.file bodies body) same_journal (record { left = λ img own. run.own (img file) (own file refl); read = run.own (g.seen d file) (seen_may_stay d file) })
 
   begun : Run d0
-  begun = started moment left_since may_leave d0 _ (only_now d0) (λ img is. record {
-    this = inl (s.at_rest.front, [], s.at_rest.records, s.durable (img file) (is file) ∙ s.at_rest.file);
-    others = λ g other. is g;
-  })
+  begun =
+      let own : (c : List ℕ) → g.may_leave d0 file c → Either c = (λ c may. inl (settled_content g d0 opened bodies s c may)) in
+      record {
+        so_far = started g d0 _ only_now (λ img is. record { own = own (img file) (is file); others = λ q other. is q });
+        own = own;
+        others = λ q apart c may. may;
+      }
 
-  staged : (c : List ℕ) → Holds (seen d0 file) (gate + 1) tail c → c ≡ header ++ s.at_rest.front ++ 0 ∷ tail
-  staged c holds = written_behind s.at_rest.front bodies s.at_rest.records gate s.at_rest.long tail c (subst (λ f. Holds f (gate + 1) tail c) s.at_rest.file holds)
+  staged : (c : List ℕ) → Holds (g.seen d0 file) (gate + 1) tail c → c ≡ header ++ s.ends.front ++ 0 ∷ tail
+  staged c holds = written_behind s.ends.front bodies s.ends.records gate s.ends.long tail c (subst (λ f. Holds f (gate + 1) tail c) s.ends.file holds)
 
   -- the record behind the closed gate
-  module _ (d1 : D) (n : ℕ) (time1 : Goes d0 d1) (crash1 : Steps file (Torn (gate + 1) n) (may_leave d0) (may_leave d1)) where
-    written : Run d1
-    written = goes_on moment left_since may_leave d0 d0 d1 _ begun time1 (λ img is.
-        let from = crash1.this (img file) (is file) in
-        let torn = subst (λ f. Torn (gate + 1) n f (img file)) (s.durable from.0 from.1 ∙ s.at_rest.file) from.2 in
-        record {
-          this = inl (torn_behind s.at_rest.front bodies s.at_rest.records gate s.at_rest.long n (img file) torn);
-          others = λ g other. crash1.others g other (img g) (is g);
-        })
+  module _ (d1 : D) (n : ℕ) (time1 : Goes g d0 d1) (crash1 : Steps file (Torn (gate + 1) n) (g.may_leave d0) (g.may_leave d1)) where
+    pub written : Run d1
+    written = step d0 d1 begun time1 (λ c may.
+        let from = crash1.this c may in
+        inl (torn_behind s.ends.front bodies s.ends.records gate s.ends.long n from.0 c (settled_content g d0 opened bodies s from.0 from.1) from.2)) crash1.others
 
-    pub during_write : During journal d1
-    during_write = let run = written in during d1 run.so_far
-
-    module _ (d2 : D) (time2 : Goes d1 d2) (crash2 : NoMore (may_leave d1) (may_leave d2)) where
-      synced : Run d2
-      synced = no_more moment left_since may_leave d0 d1 d2 _ written time2 crash2
-
-      pub during_sync : During journal d2
-      during_sync = let run = synced in during d2 run.so_far
+    module _ (d2 : D) (time2 : Goes g d1 d2) (crash2 : NoMore (g.may_leave d1) (g.may_leave d2)) where
+      pub synced : Run d2
+      synced = same d1 d2 written time2 crash2
 
       -- the gate, once the record is on the disk
-      module _ (holds : Holds (seen d0 file) (gate + 1) tail (seen d1 file)) (durable2 : Only (seen d1 file) (may_leave d2 file))
-          (d3 : D) (time3 : Goes d2 d3) (crash3 : Steps file (Torn gate 1) (may_leave d2) (may_leave d3)) where
-        gated : Run d3
-        gated = goes_on moment left_since may_leave d0 d2 d3 _ synced time3 (λ img is.
-            let from = crash3.this (img file) (is file) in
-            let torn = subst (λ f. Torn gate 1 f (img file)) (durable2 from.0 from.1 ∙ staged (seen d1 file) holds) from.2 in
-            let left = torn_gate s.at_rest.front bodies s.at_rest.records gate s.at_rest.long tail (img file) torn in
-            record {
-              this = any_gate s.at_rest.front bodies s.at_rest.records gate s.at_rest.long left.0 body (img file) fits left.1;
-              others = λ g other. crash1.others g other (img g) (crash2 g (img g) (crash3.others g other (img g) (is g)));
-            })
+      module _ (holds : Holds (g.seen d0 file) (gate + 1) tail (g.seen d1 file)) (durable2 : Only (g.seen d1 file) (g.may_leave d2 file))
+          (d3 : D) (time3 : Goes g d2 d3) (crash3 : Steps file (Torn gate 1) (g.may_leave d2) (g.may_leave d3)) where
+        pub gated : Run d3
+        gated = step d2 d3 synced time3 (λ c may.
+            let from = crash3.this c may in
+            let torn = subst (λ f. Torn gate 1 f c) (durable2 from.0 from.1 ∙ staged (g.seen d1 file) holds) from.2 in
+            let left = torn_gate s.ends.front bodies s.ends.records gate s.ends.long tail c torn in
+            any_gate s.ends.front bodies s.ends.records gate s.ends.long left.0 body c fits left.1) crash3.others
 
-        pub during_gate : During journal d3
-        during_gate = let run = gated in during d3 run.so_far
-
-        pub during_all : (d4 : D) → Goes d3 d4 → NoMore (may_leave d3) (may_leave d4) → During journal d4
-        during_all d4 time4 crash4 = let run = no_more moment left_since may_leave d0 d3 d4 _ gated time4 crash4 in during d4 run.so_far
+        pub finished : (d4 : D) → Goes g d3 d4 → NoMore (g.may_leave d3) (g.may_leave d4) → Run d4
+        finished d4 time4 crash4 = same d3 d4 gated time4 crash4
 
   -- and then the new record is on the disk
-  pub settled : (d1 d2 d3 d4 : D) (new : JournalState) → new.file ≡ file → new.gate ≡ gate + 5 + length body → Holds (seen d0 file) (gate + 1) tail (seen d1 file)
-      → SameEverywhere (seen d1) (seen d2) → Holds (seen d2 file) gate (1 ∷ []) (seen d3 file) → SameEverywhere (seen d3) (seen d4) → Only (seen d3 file) (may_leave d4 file)
-      → IsSettled (seen d4) (may_leave d4) new (bodies ++ body ∷ [])
+  pub settled : (d1 d2 d3 d4 : D) (new : JournalState) → new.file ≡ file → new.gate ≡ gate + 5 + length body → Holds (g.seen d0 file) (gate + 1) tail (g.seen d1 file)
+      → SameEverywhere (g.seen d1) (g.seen d2) → Holds (g.seen d2 file) gate (1 ∷ []) (g.seen d3 file) → SameEverywhere (g.seen d3) (g.seen d4) → Only (g.seen d3 file) (g.may_leave d4 file)
+      → IsSettled g d4 new (bodies ++ body ∷ [])
   settled d1 d2 d3 d4 new same_file is_gate holds same gated same_after durable =
-      let opened = written_gate s.at_rest.front bodies s.at_rest.records gate s.at_rest.long tail (seen d3 file)
-      (subst (λ f. Holds f gate (1 ∷ []) (seen d3 file)) (same file ∙ staged (seen d1 file) holds) gated) in
-      let rest : IsAtRest (seen d4 file) new.gate (bodies ++ body ∷ []) = record {
-        front = s.at_rest.front ++ 1 ∷ framed body;
-        records = records_push s.at_rest.front bodies 1 body s.at_rest.records (omega arith) fits;
-        long = omega (arith, is_gate, s.at_rest.long, length-append s.at_rest.front (1 ∷ framed body), length-framed body);
-        file = same_after file ∙ opened ∙ longer s.at_rest.front bodies s.at_rest.records gate s.at_rest.long 1 body (0 ∷ []);
+      let is_open = written_gate s.ends.front bodies s.ends.records gate s.ends.long tail (g.seen d3 file)
+      (subst (λ f. Holds f gate (1 ∷ []) (g.seen d3 file)) (same file ∙ staged (g.seen d1 file) holds) gated) in
+      let ends : EndsAt (g.seen d4 file) new.gate (bodies ++ body ∷ []) = record {
+        front = s.ends.front ++ 1 ∷ framed body;
+        records = records_push s.ends.front bodies 1 body s.ends.records (omega arith) fits;
+        long = omega (arith, is_gate, s.ends.long, length-append s.ends.front (1 ∷ framed body), length-framed body);
+        file = same_after file ∙ is_open ∙ longer s.ends.front bodies s.ends.records gate s.ends.long 1 body (0 ∷ []);
       } in
       record {
-        at_rest = subst (λ f. IsAtRest (seen d4 f) new.gate (bodies ++ body ∷ [])) (sym same_file) rest;
-        durable = subst (λ f. Only (seen d4 f) (may_leave d4 f)) (sym same_file) (subst (λ f. Only f (may_leave d4 file)) (sym (same_after file)) durable);
+        ends = subst (λ f. EndsAt (g.seen d4 f) new.gate (bodies ++ body ∷ [])) (sym same_file) ends;
+        durable = λ img own. (ends.front, [], ends.records, left (img new.file) (own new.file refl) ∙ ends.file);
       }
+    where
+      left : (c : List ℕ) → g.may_leave d4 new.file c → c ≡ g.seen d4 file
+      left c may = durable c (subst (λ f. g.may_leave d4 f c) same_file may) ∙ sym (same_after file)

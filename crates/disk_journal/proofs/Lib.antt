@@ -1,5 +1,6 @@
 pub mod Moments
 pub mod Writing
+pub mod Settled
 pub mod Append
 pub mod Overlaid
 pub mod Files
@@ -9,4 +10,5 @@ pub mod Calls
 pub mod Crash
 pub mod Reading
 pub mod Opening
-pub mod Settled
+pub mod Entries
+pub mod Examples

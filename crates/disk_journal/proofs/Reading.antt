@@ -3,7 +3,8 @@ use Rattle.std.proofs.Common.{◌≡◌, ◌≢◌, ◌⊎◌, inl, inr, ℕ, ze
 use Rattle.std.specs.Int.{w32, to_be_bytes, from_be_bytes}
 use Rattle.std.proofs.lemmas.Nat.{from_be_bytes-to_be_bytes_4, be_bytes_4}
 use Rattle.std.proofs.lemmas.List.{take_at, drop_at, drop_more, take_more, take_rest}
-use Rattle.disk_journal.specs.Journal.{header, framed, IsBody, AreRecords, IsJournal, IsRecord, IsRefused, IsAtRest}
+use Rattle.disk_journal.specs.Disk.{Image}
+use Rattle.disk_journal.specs.Journal.{header, framed, IsBody, AreRecords, IsJournal, IsRecord, IsRefused, EndsAt, HasBodies}
 use Rattle.disk_journal.proofs.Writing.{records_push, longer, length-framed}
 
 one_length : (n m : ℕ) → n ≤ 65536 → m ≤ 65536 → to_be_bytes w32 n ≡ to_be_bytes w32 m → n ≡ m
@@ -139,7 +140,7 @@ module _ (bytes : List ℕ) (gate : ℕ) (bodies : List (List ℕ)) (read : IsRe
   pub read_end : get_or bytes gate 0 ≡ 0 → IsJournal bytes bodies
   read_end closed = (read.front, drop (gate + 1) bytes, read.records, whole ∙ ap (λ g. header ++ read.front ++ g ∷ drop (gate + 1) bytes) closed)
 
-  pub read_rest : get_or bytes gate 0 ≡ 0 → IsAtRest (take (gate + 1) bytes) gate bodies
+  pub read_rest : get_or bytes gate 0 ≡ 0 → EndsAt (take (gate + 1) bytes) gate bodies
   read_rest closed = record {
     front = read.front;
     records = read.records;
@@ -220,3 +221,7 @@ body_here behind n le bytes is low high short =
     small_of a b c d sa sb sc sd (suc (suc zero)) = sc
     small_of a b c d sa sb sc sd (suc (suc (suc zero))) = sd
     small_of a b c d sa sb sc sd (suc (suc (suc (suc i)))) = omega arith
+
+-- a journal has one list of bodies in any files
+pub one_list : (img : Image) (file : ℕ) (ps qs : List (List ℕ)) → HasBodies img file ps → HasBodies img file qs → ps ≡ qs
+one_list img file ps qs a b = one_meaning (img file) ps qs a b

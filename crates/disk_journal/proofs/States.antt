@@ -5,8 +5,11 @@ use Rattle.std.proofs.lemmas.List.Quantifiers.{position-Some}
 use Rattle.std.proofs.lemmas.List.Recursion.{found_at}
 use Rattle.std.proofs.lemmas.Bool.Decides.{nat_tests}
 use Rattle.std.proofs.lemmas.Bool.{cases_lt}
-use Rattle.std.proofs.lemmas.List.{take_all, nil_from_length}
-use Rattle.disk_journal.specs.Memory.{FileState, IsConsistent, no_file, state_of, Changes, cut_to}
+use Rattle.std.specs.Prelude.{IsTrue, ◌&&◌, is_some, nat_le}
+use Rattle.std.proofs.lemmas.List.Folds.{position_or_len-set}
+use Rattle.std.proofs.lemmas.List.{take_all, nil_from_length, length-set, set-get_or}
+use Rattle.disk_journal.specs.declared.limits.TheConstants.{FILE_BYTES}
+use Rattle.disk_journal.specs.Memory.{FileState, IsConsistent, no_file, state_of, place_of, Changes, Works, can_write, cut_to}
 
 abbrev pub has_number : ℕ → FileState → Bool
 has_number f s = s.number == f
@@ -68,11 +71,37 @@ module _ (ss : List FileState) (f i : ℕ) (at : position (has_number f) ss ≡ 
             let a : ((get_or ss i no_file).number == g) ≡ false = grind (arith, nat_tests) in
             let b : (t.number == g) ≡ false = grind (arith, nat_tests) in
             first_set_other ss i g t a b;
+        places = λ g.
+            let same_number : has_number g t ≡ has_number g (get_or ss i no_file) = ap (λ n. n == g) (number ∙ sym old) in
+            let at_same = position_or_len-set (has_number g) ss i t no_file same_number in
+            ap (λ n. cond (nat_lt n (length (set ss i t))) (Some n) None) at_same ∙ ap (λ n. cond (nat_lt (position_or_len (has_number g) ss) n) (Some (position_or_len (has_number g) ss)) None) (length-set ss i t);
       }
+
+  -- the file put back after a step or as it was
+  pub put_back_if : (b : Bool) (step : FileState → FileState) (s t : FileState) → s ≡ get_or ss i s → (IsTrue b → t ≡ step s) → (b ≡ false → t ≡ s) → (step s).number ≡ s.number → Works b f step ss (set ss i t)
+  put_back_if true step s t is stepped same keeps = put_back step s t is (stepped refl) keeps
+  put_back_if false step s t is stepped same keeps = ap (set ss i) (same refl ∙ is) ∙ set-get_or ss i s
+
+  -- whether a write that ends here passes
+  pub can_write_here : (s : FileState) → s ≡ get_or ss i s → (end : ℕ) → end ≤ FILE_BYTES → can_write ss f end ≡ nat_le end s.room
+  can_write_here s is end le =
+      let some : is_some (place_of ss f) ≡ true = ap is_some at in
+      let small : nat_le end FILE_BYTES ≡ true = grind (arith, nat_tests) in
+      ap (λ a. a && nat_le end FILE_BYTES && nat_le end (state_of ss f).room) some ∙ ap (λ b. true && b && nat_le end (state_of ss f).room) small ∙ ap (λ (s : FileState). nat_le end s.room) (found s is)
+
+-- past the greatest size of a file no write passes
+pub no_write_past : (ss : List FileState) (f end : ℕ) → FILE_BYTES < end → can_write ss f end ≡ false
+no_write_past ss f end past_end =
+    let large : nat_le end FILE_BYTES ≡ false = grind (arith, nat_tests) in
+    ap (λ b. is_some (place_of ss f) && b && nat_le end (state_of ss f).room) large ∙ never (is_some (place_of ss f))
+  where
+    never : (b : Bool) → (b && false && nat_le end (state_of ss f).room) ≡ false
+    never true = refl
+    never false = refl
 
 -- a step that leaves what a file is
 pub stays : (ss : List FileState) (f : ℕ) (step : FileState → FileState) → step (state_of ss f) ≡ state_of ss f → Changes f step ss ss
-stays ss f step same = record { this = sym same; others = λ g apart. refl }
+stays ss f step same = record { this = sym same; others = λ g apart. refl; places = λ g. refl }
 
 pub consistent_none : IsConsistent no_file
 consistent_none = record {

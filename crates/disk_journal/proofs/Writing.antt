@@ -1,12 +1,26 @@
 -- What a write behind the closed gate, and one of the gate, leave of a journal.
-use Rattle.std.proofs.Common.{◌≡◌, ◌≢◌, ◌⊎◌, inl, inr, ℕ, ◌+◌, List, [], ◌∷◌, ◌++◌, length, take, drop, get_or, refl, sym, ◌∙◌, ap, arith, append_assoc, length-append, take-append-drop}
+use Rattle.std.proofs.Common.{◌≡◌, ◌≢◌, ◌⊎◌, inl, inr, ℕ, ◌+◌, List, [], ◌∷◌, ◌++◌, length, take, drop, get_or, refl, sym, ◌∙◌, ap, subst, arith, append_assoc, length-append, take-append-drop}
 use Rattle.std.proofs.lemmas.List.{take_at, drop_at, drop_more, take_all, drop_all, append-nil}
 use Rattle.std.proofs.lemmas.Bool.{cases_eq}
 use Rattle.disk_journal.specs.Disk.{Holds, Torn}
 use Rattle.disk_journal.specs.Journal.{header, framed, IsBody, AreRecords, IsJournal}
+use Rattle.disk_journal.specs.declared.limits.TheConstants.{HEADER_BYTES}
 
 pub length-framed : (body : List ℕ) → length (framed body) ≡ 4 + length body
 length-framed body = omega arith
+
+-- records of the same bodies are equally long, whatever their gates
+pub records_length : (bodies : List (List ℕ)) (fa fb : List ℕ) → AreRecords fa bodies → AreRecords fb bodies → length fa ≡ length fb
+records_length [] fa fb a b = ap length (a ∙ sym b)
+records_length (body ∷ bodies) fa fb a b =
+    omega (
+      arith,
+      records_length bodies a.1 b.1 a.5 b.5,
+      ap length a.4,
+      ap length b.4,
+      length-append (framed body) a.1,
+      length-append (framed body) b.1,
+    )
 
 -- one more record at the end
 pub records_push : (front : List ℕ) (bodies : List (List ℕ)) (gate : ℕ) (body : List ℕ) → AreRecords front bodies → gate ≢ 0 → IsBody body → AreRecords (front ++ gate ∷ framed body) (bodies ++ body ∷ [])
@@ -32,9 +46,9 @@ module _ (front : List ℕ) (bodies : List (List ℕ)) (records : AreRecords fro
   length-rest = omega (arith, length-append whole (0 ∷ []), length-whole)
 
   -- the closed gate stands in each outcome of the first write
-  pub torn_behind : (n : ℕ) (c : List ℕ) → Torn (g + 1) n (header ++ front ++ 0 ∷ []) c → IsJournal c bodies
-  torn_behind n c torn =
-      let start : take (g + 1) c ≡ whole ++ 0 ∷ [] = torn.before ∙ take_all (g + 1) (whole ++ 0 ∷ []) (omega (arith, length-rest)) in
+  torn_at : (n : ℕ) (rest c : List ℕ) → Torn (g + 1) n (header ++ front ++ 0 ∷ rest) c → IsJournal c bodies
+  torn_at n rest c torn =
+      let start : take (g + 1) c ≡ whole ++ 0 ∷ [] = torn.before ∙ ap (take (g + 1)) (sym (append_assoc whole (0 ∷ []) rest)) ∙ take_at (whole ++ 0 ∷ []) rest (g + 1) length-rest in
       (front, drop (g + 1) c, records, sym (take-append-drop (g + 1) c) ∙ ap (λ (l : List ℕ). l ++ drop (g + 1) c) start ∙ append_assoc whole (0 ∷ []) (drop (g + 1) c))
 
   pub written_behind : (bytes c : List ℕ) → Holds (header ++ front ++ 0 ∷ []) (g + 1) bytes c → c ≡ header ++ front ++ 0 ∷ bytes
@@ -76,3 +90,8 @@ module _ (front : List ℕ) (bodies : List (List ℕ)) (records : AreRecords fro
     | inl closed ↦ inl (front, framed body ++ 0 ∷ [], records, is ∙ ap (λ n. whole ++ n ∷ (framed body ++ 0 ∷ [])) closed)
     | inr is_open ↦ inr (front ++ gate ∷ framed body, [], records_push front bodies gate body records is_open fits, is ∙ longer gate body (0 ∷ []))
   ]
+
+-- what the first write leaves of a journal whose records end there has the same bodies
+pub torn_behind : (front : List ℕ) (bodies : List (List ℕ)) → AreRecords front bodies → (g : ℕ) → HEADER_BYTES + length front ≡ g → (n : ℕ) (old c : List ℕ) → IsJournal old bodies → Torn (g + 1) n old c → IsJournal c bodies
+torn_behind front bodies records g long n old c j torn =
+    torn_at j.0 bodies j.2 g (omega (arith, long, records_length bodies front j.0 records j.2)) n j.1 c (subst (λ b. Torn (g + 1) n b c) j.3 torn)

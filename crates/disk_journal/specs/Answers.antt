@@ -13,12 +13,12 @@ Refuses (Err (NotAJournal at)) bytes = IsRefused bytes at
 Refuses (Err Failed) bytes = Unit {0}
 Refuses (Err Memory) bytes = Unit {0}
 
--- a refusal, and one for want of memory, changes nothing
-abbrev pub Stays : {X : Type 0} → Result X JournalFault → Type 0 → Type 0
-Stays (Ok x) same = Unit {0}
-Stays (Err (NotAJournal at)) same = same
-Stays (Err Failed) same = Unit {0}
-Stays (Err Memory) same = same
+-- what holds of a refusal, and of one for want of memory
+abbrev pub IfRefused : {X : Type 0} → Result X JournalFault → Type 0 → Type 0
+IfRefused (Ok x) P = Unit {0}
+IfRefused (Err (NotAJournal at)) P = P
+IfRefused (Err Failed) P = Unit {0}
+IfRefused (Err Memory) P = P
 
 -- a file of some size is in use, and one of size 0 is not
 abbrev pub IsFree : Result (Unit {0}) MakeFault → ℕ → Type 0

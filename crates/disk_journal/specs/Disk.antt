@@ -56,13 +56,6 @@ pub record Elapses (before now : ℕ) (past since : ℕ → Image → Type 0) (m
   pub later : before ≤ now
   pub nothing_else : (t : ℕ) (img : Image) → t ≤ before → since t img → past t img ⊎ IsImage may_leave img
 
--- a crash at any moment since old leaves files that have P
-pub record LeavesOnly {D : Type 0} (moment : D → ℕ) (left_since : D → ℕ → Image → Type 0) (old new : D) (P : Image → Type 0) : Type 0 where
-  pub later : moment old ≤ moment new
-  pub each : (img : Image) → left_since new (moment old) img → P img
-  -- for a run that began earlier
-  pub before : (t : ℕ) (img : Image) → t ≤ moment old → left_since new t img → left_since old t img ⊎ P img
-
 -- the count of faults has risen, and the last fault is of this file
 abbrev pub RoseAt : ℕ → ℕ → ℕ → ℕ → Type 0
 RoseAt file before now now_file = Rose before now × (now_file ≡ file)
@@ -72,3 +65,8 @@ pub record HasCause {T E : Type 0} (file before now before_file now_file : ℕ) 
   pub later : before ≤ now
   pub failed : OnErr result (RoseAt file before now now_file)
   pub of_file : ((now ≡ before) × (now_file ≡ before_file)) ⊎ RoseAt file before now now_file
+
+-- a call that ends at this byte of a file passes where the disk is steady that far, and the disk stays as steady as it was
+pub record Progresses {T E : Type 0} (file end : ℕ) (before now : ℕ → ℕ → Type 0) (result : Result T E) : Type 0 where
+  pub passes : (n : ℕ) → end ≤ n → before file n → OnErr result ⊥
+  pub keeps : (q n : ℕ) → before q n → now q n

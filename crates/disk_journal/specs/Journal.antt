@@ -1,16 +1,16 @@
 -- What the bytes of a journal stand for.
 use Rattle.std.specs.Prelude.{◌≡◌, ◌≢◌, ◌⊎◌, ℕ, ◌+◌, ◌≤◌, ◌<◌, Bool, List, [], ◌∷◌, ◌++◌, length, take}
 use Rattle.std.specs.Int.{w32, to_be_bytes}
-use Rattle.cells_base.specs.Causes.{Rose}
-use Rattle.disk_journal.specs.Disk.{Only, Cut, Image, IsImage, Outcomes}
+use Rattle.disk_journal.specs.Disk.{Image}
+use Rattle.disk_journal.specs.declared.limits.TheConstants.{HEADER_BYTES, GATE_BYTES, FRESH_BYTES, FRAME_BYTES, BODY_BYTES}
 
 -- the bytes of `cells-journal-01`
 abbrev pub header : List ℕ
 header = 99 ∷ 101 ∷ 108 ∷ 108 ∷ 115 ∷ 45 ∷ 106 ∷ 111 ∷ 117 ∷ 114 ∷ 110 ∷ 97 ∷ 108 ∷ 45 ∷ 48 ∷ 49 ∷ []
 
--- a body has 1 to 65,536 bytes
+-- a body has at least one byte, and at most so many
 abbrev pub IsBody : List ℕ → Type 0
-IsBody body = (1 ≤ length body) × (length body ≤ 65536)
+IsBody body = (1 ≤ length body) × (length body ≤ BODY_BYTES)
 
 -- behind an open gate: the length of the body in four bytes, the most significant first, and the body
 abbrev pub framed : List ℕ → List ℕ
@@ -36,14 +36,14 @@ pub record IsBrokenAt (bytes : List ℕ) (at : ℕ) : Type 0 where
   pub gate : ℕ
   pub behind : List ℕ
   pub records : AreRecords front bodies
-  pub long : 16 + length front ≡ at
+  pub long : HEADER_BYTES + length front ≡ at
   pub file : bytes ≡ header ++ front ++ gate ∷ behind
   pub is_open : gate ≢ 0
   pub no_record : (body : List ℕ) → IsRecord body behind → ⊥
 
--- The bytes are no journal, and the place that shows it: 0 where they are fewer than 17 or begin otherwise, else that of an open gate.
+-- The bytes are no journal, and the place that shows it: 0 where they are fewer than those of a fresh journal or begin otherwise, else that of an open gate.
 abbrev pub IsRefused : List ℕ → ℕ → Type 0
-IsRefused bytes at = ((at ≡ 0) × ((length bytes < 17) ⊎ (take 16 bytes ≢ header))) ⊎ IsBrokenAt bytes at
+IsRefused bytes at = ((at ≡ 0) × ((length bytes < FRESH_BYTES) ⊎ (take HEADER_BYTES bytes ≢ header))) ⊎ IsBrokenAt bytes at
 
 -- a journal without a body
 abbrev pub fresh : List ℕ
@@ -64,53 +64,12 @@ pub record JournalState : Type 0 where
   pub live : Bool
 
 -- the header and the records of these bodies end at this gate, and nothing is behind it
-pub record IsAtRest (bytes : List ℕ) (gate : ℕ) (bodies : List (List ℕ)) : Type 0 where
+pub record EndsAt (bytes : List ℕ) (gate : ℕ) (bodies : List (List ℕ)) : Type 0 where
   pub front : List ℕ
   pub records : AreRecords front bodies
-  pub long : 16 + length front ≡ gate
+  pub long : HEADER_BYTES + length front ≡ gate
   pub file : bytes ≡ header ++ front ++ 0 ∷ []
 
--- the journal's file has these bodies and nothing behind them, and all of it is on the disk
-pub record IsSettled (seen : Image) (may_leave : Outcomes) (journal : JournalState) (bodies : List (List ℕ)) : Type 0 where
-  pub at_rest : IsAtRest (seen journal.file) journal.gate bodies
-  pub durable : Only (seen journal.file) (may_leave journal.file)
-
--- of each file that is not the journal's, a crash leaves what it might have left at the start
-abbrev pub OthersStay : Outcomes → ℕ → Image → Type 0
-OthersStay may_leave file img = (g : ℕ) → (IsOwn file g → ⊥) → may_leave g (img g)
-
--- these bodies, with one more or without it
-pub record IsBeforeOrAfter (may_leave : Outcomes) (file : ℕ) (bodies : List (List ℕ)) (body : List ℕ) (img : Image) : Type 0 where
-  pub this : HasBodies img file bodies ⊎ HasBodies img file (bodies ++ body ∷ [])
-  pub others : OthersStay may_leave file img
-
--- each file but the journal's reads as before, and a crash may leave no more of it than before
-pub record StaysElsewhere (file : ℕ) (seen_before seen_now : Image) (before now : Outcomes) : Type 0 where
-  pub seen : (g : ℕ) → (IsOwn file g → ⊥) → seen_now g ≡ seen_before g
-  pub crash : (g : ℕ) → (IsOwn file g → ⊥) → (c : List ℕ) → now g c → before g c
-
--- the count of faults has risen, and the last fault is of the journal's files
-abbrev pub RoseOwn : ℕ → ℕ → ℕ → ℕ → Type 0
-RoseOwn file before now now_file = Rose before now × IsOwn file now_file
-
--- the count never falls, and where it moved the last fault is of the journal's files
-pub record CountsOwn (file before now before_file now_file : ℕ) : Type 0 where
-  pub later : before ≤ now
-  pub of_own : ((now ≡ before) × (now_file ≡ before_file)) ⊎ RoseOwn file before now now_file
-
--- a journal without a body stands on this file, and all of it is on the disk
-pub record IsMade (seen : Image) (may_leave : Outcomes) (file : ℕ) : Type 0 where
-  pub content : seen file ≡ fresh
-  pub durable : Only fresh (may_leave file)
-
--- the files at a moment of a cut: of this one a content with less behind the size, and of the others what a crash might have left
-pub record IsShortened (may_leave : Outcomes) (file size : ℕ) (img : Image) : Type 0 where
-  pub this : (d : List ℕ) × may_leave file d × Cut size d (img file)
-  pub others : OthersStay may_leave file img
-
--- The files at a moment of an opening: as a crash might have left them at its start, but that the journal's file may have lost what does not count.
-pub record IsOpening (may_leave : Outcomes) (file : ℕ) (img : Image) : Type 0 where
-  pub from : Image
-  pub might : IsImage may_leave from
-  pub bodies : (bodies : List (List ℕ)) → HasBodies from file bodies → HasBodies img file bodies
-  pub others : OthersStay may_leave file img
+-- where the file ends once this body is added: behind the gate its length, the body, and the next gate
+abbrev pub end_with : JournalState → List ℕ → ℕ
+end_with journal body = journal.gate + GATE_BYTES + FRAME_BYTES + length body

@@ -1,6 +1,9 @@
 pub mod Disk
+pub mod Moments
 pub mod Journal
+pub mod Effects
+pub mod Entries
+pub mod Answers
 pub mod Memory
 pub mod Inside
-pub mod Answers
 pub mod Failing

@@ -1,8 +1,7 @@
 ghost use Rattle.std.specs.Prelude.{◌≡◌, ◌+◌, ◌≤◌, Bool, IsTrue, List, ℕ, length, take, drop, IfOk, OnOk};
-ghost use Rattle.disk_journal.specs.Disk.{Image, Only, Steps, NoMore, SameElsewhere, SameEverywhere, Torn, Cut, Holds, IsImage, Elapses, HasCause};
+ghost use Rattle.disk_journal.specs.Disk.{Image, Only, Steps, NoMore, SameElsewhere, SameEverywhere, Torn, Cut, Holds, IsImage, Elapses, HasCause, Progresses};
 
-/// The greatest size of a file, in bytes.
-pub const FILE_BYTES: u64 = 4_611_686_018_427_387_904;
+use crate::limits::FILE_BYTES;
 
 /// A call of a disk failed. It may have done its work or not.
 #[derive(Clone, Copy, Debug, PartialEq, Eq)]
@@ -39,14 +38,20 @@ pub trait Disk {
     /// The file of the last call that failed.
     ghost last_fault: { Self → ℕ };
 
+    /// That from now on no call on a file fails which ends within so many bytes of it.
+    ghost steady: { Self → ℕ → ℕ → Type 0 };
+
     /// The number of bytes of the file, 0 where there is none.
     fn size(&mut self, file: u16) -> Result<u64, DiskFailed>
         ensures size { IsTrue tells → IfOk result (λ size. size ≡ length (seen self.old file)) }
         ensures within { IfOk result (λ size. size ≤ FILE_BYTES) }
         ensures seen { IsTrue tells → SameEverywhere (seen self.old) (seen self.new) }
         ensures crash { IsTrue tells → NoMore (may_leave self.old) (may_leave self.new) }
-        ensures time { IsTrue tells → Elapses (moment self.old) (moment self.new) (left_since self.old) (left_since self.new) (may_leave self.new) }
-        ensures cause { HasCause file (faults self.old) (faults self.new) (last_fault self.old) (last_fault self.new) result };
+        ensures time { IsTrue tells →
+            Elapses (moment self.old) (moment self.new) (left_since self.old) (left_since self.new) (may_leave self.new) }
+        ensures cause { HasCause file (faults self.old) (faults self.new)
+            (last_fault self.old) (last_fault self.new) result }
+        ensures progress { Progresses file 0 (steady self.old) (steady self.new) result };
 
     /// Fills the buffer with the bytes from `at` on.
     fn read(&mut self, file: u16, at: u64, buf: &mut [u8]) -> Result<(), DiskFailed>
@@ -54,8 +59,11 @@ pub trait Disk {
         ensures bytes { IsTrue tells → OnOk result (buf.new ≡ take (length buf.old) (drop at (seen self.old file))) }
         ensures seen { IsTrue tells → SameEverywhere (seen self.old) (seen self.new) }
         ensures crash { IsTrue tells → NoMore (may_leave self.old) (may_leave self.new) }
-        ensures time { IsTrue tells → Elapses (moment self.old) (moment self.new) (left_since self.old) (left_since self.new) (may_leave self.new) }
-        ensures cause { HasCause file (faults self.old) (faults self.new) (last_fault self.old) (last_fault self.new) result };
+        ensures time { IsTrue tells →
+            Elapses (moment self.old) (moment self.new) (left_since self.old) (left_since self.new) (may_leave self.new) }
+        ensures cause { HasCause file (faults self.old) (faults self.new)
+            (last_fault self.old) (last_fault self.new) result }
+        ensures progress { Progresses file 0 (steady self.old) (steady self.new) result };
 
     /// Writes over what is there from `at` on, and past the end.
     fn write_at(&mut self, file: u16, at: u64, bytes: &[u8]) -> Result<(), DiskFailed>
@@ -63,9 +71,13 @@ pub trait Disk {
         ensures written { IsTrue tells → OnOk result (Holds (seen self.old file) at bytes.now (seen self.new file)) }
         ensures within { OnOk result (at + length bytes.now ≤ FILE_BYTES) }
         ensures elsewhere { IsTrue tells → SameElsewhere file (seen self.old) (seen self.new) }
-        ensures crash { IsTrue tells → Steps file (Torn at (length bytes.now)) (may_leave self.old) (may_leave self.new) }
-        ensures time { IsTrue tells → Elapses (moment self.old) (moment self.new) (left_since self.old) (left_since self.new) (may_leave self.new) }
-        ensures cause { HasCause file (faults self.old) (faults self.new) (last_fault self.old) (last_fault self.new) result };
+        ensures crash { IsTrue tells →
+            Steps file (Torn at (length bytes.now)) (may_leave self.old) (may_leave self.new) }
+        ensures time { IsTrue tells →
+            Elapses (moment self.old) (moment self.new) (left_since self.old) (left_since self.new) (may_leave self.new) }
+        ensures cause { HasCause file (faults self.old) (faults self.new)
+            (last_fault self.old) (last_fault self.new) result }
+        ensures progress { Progresses file (at + length bytes.now) (steady self.old) (steady self.new) result };
 
     /// Cuts the file to its first `size` bytes.
     fn cut(&mut self, file: u16, size: u64) -> Result<(), DiskFailed>
@@ -73,16 +85,22 @@ pub trait Disk {
         ensures front { IsTrue tells → OnOk result (seen self.new file ≡ take size (seen self.old file)) }
         ensures elsewhere { IsTrue tells → SameElsewhere file (seen self.old) (seen self.new) }
         ensures crash { IsTrue tells → Steps file (Cut size) (may_leave self.old) (may_leave self.new) }
-        ensures time { IsTrue tells → Elapses (moment self.old) (moment self.new) (left_since self.old) (left_since self.new) (may_leave self.new) }
-        ensures cause { HasCause file (faults self.old) (faults self.new) (last_fault self.old) (last_fault self.new) result };
+        ensures time { IsTrue tells →
+            Elapses (moment self.old) (moment self.new) (left_since self.old) (left_since self.new) (may_leave self.new) }
+        ensures cause { HasCause file (faults self.old) (faults self.new)
+            (last_fault self.old) (last_fault self.new) result }
+        ensures progress { Progresses file 0 (steady self.old) (steady self.new) result };
 
     /// After it a crash leaves of this file what a read gives.
     fn sync(&mut self, file: u16) -> Result<(), DiskFailed>
         ensures durable { IsTrue tells → OnOk result (Only (seen self.old file) (may_leave self.new file)) }
         ensures seen { IsTrue tells → SameEverywhere (seen self.old) (seen self.new) }
         ensures crash { IsTrue tells → NoMore (may_leave self.old) (may_leave self.new) }
-        ensures time { IsTrue tells → Elapses (moment self.old) (moment self.new) (left_since self.old) (left_since self.new) (may_leave self.new) }
-        ensures cause { HasCause file (faults self.old) (faults self.new) (last_fault self.old) (last_fault self.new) result };
+        ensures time { IsTrue tells →
+            Elapses (moment self.old) (moment self.new) (left_since self.old) (left_since self.new) (may_leave self.new) }
+        ensures cause { HasCause file (faults self.old) (faults self.new)
+            (last_fault self.old) (last_fault self.new) result }
+        ensures progress { Progresses file 0 (steady self.old) (steady self.new) result };
 
     /// This moment is one of those since an earlier one.
     ghost counts_now: { (d : Self) (t : ℕ) (img : Image) → t ≤ moment d → IsImage (may_leave d) img → left_since d t img };

@@ -20,34 +20,47 @@
 //!
 //! Promised, of every disk that keeps the rules of its trait:
 //!
+//! - `make` leaves a file in use as it is, at every moment and whatever it answers;
 //! - at every moment of `append`, and after its failure, a crash leaves the bodies from before it or these
 //!   with the new one, and after its `Ok` these with the new one;
 //! - at every moment of `open`, and after each of its answers, a crash leaves bodies that it might have left
 //!   at the start; `Ok` gives those that a read gave, and `NotAJournal` names the one place that shows why
-//!   there are none;
-//! - each failure has its cause: the disk's count of faults rose, by a call on the journal's file;
+//!   there are none, and leaves the file as it is;
+//! - each failure has its cause: the disk's count of faults rose, by a call on the journal's file. Where the
+//!   disk is steady that far, nothing fails;
 //! - the images of every other file stay.
 //!
 //! After a failed `append` the journal is not live, and its file is opened again. Not promised: that a real
 //! file does what the trait says.
+//!
+//! What layers above say of the entries that they keep in a journal stands in `specs/Entries`, once for every
+//! form of entries, and what they need of it in `proofs/Entries`.
+//!
+//! A caller keeps two things: the journal's file is used by that journal alone, and a body is within its
+//! bounds.
 #![tactic(auto)]
 
 mod disk;
+mod failing;
 mod fault;
 mod fuse;
 mod journal;
 mod laws;
+mod limits;
 mod memory;
 mod memory_file;
+mod memory_files;
 mod real;
 mod records;
 
-pub use disk::{Disk, DiskFailed, FILE_BYTES};
+pub use disk::{Disk, DiskFailed};
+pub use failing::FailingCall;
 pub use fault::{JournalFault, MakeFault};
 pub use fuse::FuseDisk;
-pub use journal::{BODY_BYTES, Bodies, Journal, Opened, make};
-pub use laws::one_meaning;
-pub use memory::{FailingCall, MemoryDisk};
+pub use journal::{Bodies, Journal, Opened, make};
+pub use laws::{one_meaning, one_run};
+pub use limits::{BODY_BYTES, FILE_BYTES, FRESH_BYTES};
+pub use memory::MemoryDisk;
 pub use real::FileDisk;
 
 #[cfg(test)]

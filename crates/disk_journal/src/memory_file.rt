@@ -1,4 +1,4 @@
-ghost use Rattle.std.specs.Prelude.{◌≡◌, ◌+◌, ◌≤◌, ◌<◌, ◌-◌, ◌++◌, [], ◌∷◌, ℕ, List, true, false, Bool, IsTrue, IfOk, length, take, drop, replicate, vec_len};
+ghost use Rattle.std.specs.Prelude.{◌≡◌, ◌+◌, ◌≤◌, ◌<◌, ◌-◌, ◌++◌, [], ◌∷◌, ℕ, List, true, false, Bool, IsTrue, IfOk, length, take, drop, replicate, nat_le, vec_len};
 ghost use Rattle.disk_journal.specs.Memory.{FileState, empty_file, IsConsistent, overlaid, written_at, cut_to, flushed, IsLeft, left_by, with_seen, crashed, torn};
 
 use cells_base::NoMemory;
@@ -127,8 +127,7 @@ impl MemoryFile {
         ensures consistent { IsConsistent self.old }
         ensures done { IsTrue result → self.new ≡ written_at at bytes.now self.old }
         ensures full { result ≡ false → self.new ≡ self.old }
-        ensures no_room { result ≡ false → self.old.room < at + length bytes.now }
-        ensures fits { IsTrue result → at + length bytes.now ≤ self.old.room }
+        ensures fits { result ≡ nat_le (at + length bytes.now) self.old.room }
     {
         if bytes.len() > self.bytes.len() - at {
             return false;

@@ -1,11 +1,12 @@
-ghost use Rattle.std.specs.Prelude.{◌≡◌, ◌+◌, ◌≤◌, ◌<◌, Ok, length, vec_len, IfOk, IfSome, OnOk};
+ghost use Rattle.std.specs.Prelude.{◌≡◌, ◌+◌, ◌≤◌, ◌<◌, Ok, false, length, vec_len, IfOk, IfSome, OnOk};
 ghost use Rattle.disk_journal.specs.Disk.{HasCause};
 
-use crate::{Disk, DiskFailed, FILE_BYTES};
+use crate::limits::{FILE_BYTES, OPEN_FILES, PATH_BYTES};
+use crate::{Disk, DiskFailed};
 use cells_base::NoMemory;
 use std::alloc::Global;
 use std::fmt::Write as _;
-use std::fs::{OpenFile, OpenOptions};
+use std::fs::{File, OpenOptions};
 use std::io::{ErrorKind, Read, Seek, SeekFrom, Write};
 use std::rt::Files;
 use std::{fs, io};
@@ -13,29 +14,35 @@ use std::{fs, io};
 /// The folder of the files, in the current folder.
 const FOLDER: &str = "cells-data";
 
-/// How many files a disk keeps open: two for each node.
-const OPEN_FILES: usize = 2_000;
-
-/// The room for a file's path, in bytes.
-const PATH_BYTES: usize = 64;
-
 /// A file that is kept open, by its number.
 #[derive(Drop)]
-struct KeptFile<F: Drop> {
+struct KeptFile {
     number: u16,
-    file: F,
+    file: File,
+    // A sync failed: what the system holds of the file is not known any more.
+    spoiled: bool,
 }
 
 /// The files of the folder `cells-data`: `service.journal` for file 0, `cell-c.journal` for file c.
 ///
 /// A missing file has size 0, its sync does nothing, and a write makes it, with the folder where that is
 /// missing. Any other error is a counted fault. Each file stays open from its first use, and no call takes
-/// memory. What the files hold is not told: that the system does what [`Disk`] says is trusted, not proved.
+/// memory. A process makes one such disk.
+///
+/// - One owner: a file's first use takes the exclusive advisory lock on it. The lock of another is a fault.
+/// - A failed sync is never believed: every later call on that file is a fault, and where it was the sync of
+///   a folder, every later call. A system may drop what it could not write, and pass the next sync.
+/// - At a file's first use its folder and the current folder are synced, whoever made the file.
+/// - Its descriptors are above 2, so a report never goes into a journal where a stream was closed before.
+///
+/// What the files hold is not told: that the system does what [`Disk`] says is trusted, not proved.
 #[derive(Drop)]
-pub struct FileDisk<R: Files + Drop> {
+pub struct FileDisk<R: Files<File = File> + Drop> {
     rt: R,
     path: String,
-    kept: Vec<KeptFile<R::File>>,
+    kept: Vec<KeptFile>,
+    // The sync of a folder failed.
+    spoiled: bool,
     faults: u64,
     last_fault: u16,
 }
@@ -47,27 +54,19 @@ fn options(makes: bool) -> OpenOptions {
     options
 }
 
-// Puts on the disk which files a folder has.
-fn sync_folder<R: Files>(rt: &R, path: &str) -> io::Result<()> {
-    OpenOptions::new().read(true).open(rt, path)?.sync_all()
-}
-
 // Opens a file, and makes it and the folder where they are missing.
-fn make_file<R: Files>(rt: &R, path: &str) -> io::Result<R::File> {
-    let file = match options(true).open(rt, path) {
+fn make_file<R: Files<File = File>>(rt: &R, path: &str) -> io::Result<File> {
+    match options(true).open(rt, path) {
         Err(error) if error.kind() == ErrorKind::NotFound => {
             fs::create_dir(rt, FOLDER)?;
-            sync_folder(rt, ".")?;
-            options(true).open(rt, path)?
+            options(true).open(rt, path)
         }
-        outcome => outcome?,
-    };
-    sync_folder(rt, FOLDER)?;
-    Ok(file)
+        outcome => outcome,
+    }
 }
 
 // Opens a file that is there, or makes it. None: it is missing.
-fn open_file<R: Files>(rt: &R, path: &str, makes: bool) -> io::Result<Option<R::File>> {
+fn open_file<R: Files<File = File>>(rt: &R, path: &str, makes: bool) -> io::Result<Option<File>> {
     match options(false).open(rt, path) {
         Ok(file) => Ok(Some(file)),
         Err(error) if error.kind() == ErrorKind::NotFound => {
@@ -79,6 +78,26 @@ fn open_file<R: Files>(rt: &R, path: &str, makes: bool) -> io::Result<Option<R::
         }
         Err(error) => Err(error),
     }
+}
+
+// The same file for this disk alone, by a descriptor above 2.
+fn owned(file: File) -> io::Result<File> {
+    if !file.metadata()?.is_file() {
+        return Err(io::Error::from(ErrorKind::InvalidInput));
+    }
+    file.try_lock()?;
+    file.try_clone()
+}
+
+// Puts on the disk which files a folder has.
+fn sync_folder<R: Files<File = File>>(rt: &R, path: &str) -> io::Result<()> {
+    OpenOptions::new().read(true).open(rt, path)?.sync_all()
+}
+
+// The same of the folder of the files and of the one that it is in.
+fn sync_folders<R: Files<File = File>>(rt: &R) -> io::Result<()> {
+    sync_folder(rt, FOLDER)?;
+    sync_folder(rt, ".")
 }
 
 // The path of the file with this number, in a text whose room is taken before.
@@ -112,7 +131,7 @@ fn counted<T: Drop>(
     }
 }
 
-impl<R: Files + Drop> FileDisk<R> {
+impl<R: Files<File = File> + Drop> FileDisk<R> {
     /// The files of the current folder. None is opened yet.
     pub fn new(rt: R, alloc: Global) -> Result<Self, NoMemory>
         ensures { IfOk result (λ disk. disk.faults ≡ 0) }
@@ -121,29 +140,53 @@ impl<R: Files + Drop> FileDisk<R> {
             rt,
             path: String::with_capacity(alloc, PATH_BYTES)?,
             kept: Vec::with_capacity(alloc, OPEN_FILES)?,
+            spoiled: false,
             faults: 0,
             last_fault: 0,
         })
     }
 
-    // The place of a file among those that are open, where it is there, or is made.
+    // Opens a file for the first time. None: it is missing, and is not to be made.
+    fn first_use(&mut self, number: u16, makes: bool) -> io::Result<Option<usize>>
+        ensures faults { self.new.faults ≡ self.old.faults }
+        ensures last { self.new.last_fault ≡ self.old.last_fault }
+        ensures within { IfOk result (λ place. IfSome place (λ i. i < vec_len self.new.kept)) }
+    {
+        if self.kept.len() >= OPEN_FILES {
+            return Err(io::Error::from(ErrorKind::OutOfMemory));
+        }
+        write_path(&mut self.path, number)?;
+        let Some(opened) = open_file(&self.rt, self.path.as_str(), makes)? else {
+            return Ok(None);
+        };
+        let file = owned(opened)?;
+        let synced = sync_folders(&self.rt);
+        self.spoiled = synced.is_err();
+        synced?;
+        let i = self.kept.len();
+        self.kept.push(KeptFile {
+            number,
+            file,
+            spoiled: false,
+        })?;
+        Ok(Some(i))
+    }
+
+    // The place of a file among those that are open, where it is there, or is made. None: it is missing.
     fn place(&mut self, number: u16, makes: bool) -> io::Result<Option<usize>>
         ensures faults { self.new.faults ≡ self.old.faults }
         ensures last { self.new.last_fault ≡ self.old.last_fault }
         ensures within { IfOk result (λ place. IfSome place (λ i. i < vec_len self.new.kept)) }
     {
-        if let Some(i) = self.kept.iter().position(|kept| kept.number == number) {
-            return Ok(Some(i));
+        if self.spoiled {
+            return Err(io::Error::from(ErrorKind::Other));
         }
-        if self.kept.len() >= OPEN_FILES {
-            return Err(io::Error::from(ErrorKind::OutOfMemory));
-        }
-        write_path(&mut self.path, number)?;
-        let Some(file) = open_file(&self.rt, self.path.as_str(), makes)? else {
-            return Ok(None);
+        let Some(i) = self.kept.iter().position(|kept| kept.number == number) else {
+            return self.first_use(number, makes);
         };
-        let i = self.kept.len();
-        self.kept.push(KeptFile { number, file })?;
+        if self.kept[i].spoiled {
+            return Err(io::Error::from(ErrorKind::Other));
+        }
         Ok(Some(i))
     }
 
@@ -208,14 +251,17 @@ impl<R: Files + Drop> FileDisk<R> {
         ensures faults { self.new.faults ≡ self.old.faults }
         ensures last { self.new.last_fault ≡ self.old.last_fault }
     {
-        match self.place(number, false)? {
-            Some(i) => self.kept[i].file.sync_all(),
-            None => Ok(()),
-        }
+        let Some(i) = self.place(number, false)? else {
+            return Ok(());
+        };
+        let kept = &mut self.kept[i];
+        let synced = kept.file.sync_all();
+        kept.spoiled = synced.is_err();
+        synced
     }
 }
 
-impl<R: Files + Drop> Disk for FileDisk<R> {
+impl<R: Files<File = File> + Drop> Disk for FileDisk<R> {
     ghost use Rattle.std.specs.Prelude.{false, []};
 
     ghost tells = { false };
@@ -231,6 +277,8 @@ impl<R: Files + Drop> Disk for FileDisk<R> {
     ghost faults = { λ d. d.faults };
 
     ghost last_fault = { λ d. d.last_fault };
+
+    ghost steady = { λ d f n. ⊥ };
 
     ghost counts_now = { λ d t img le now. tt };
 

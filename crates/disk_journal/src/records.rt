@@ -1,18 +1,15 @@
 ghost use Rattle.std.specs.Prelude.{◌≡◌, ◌≢◌, ◌+◌, ◌≤◌, ◌<◌, ◌++◌, ◌↔◌, ℕ, List, IsTrue, IfOk, IsErrOf, MatchOption, length, take, drop};
-ghost use Rattle.disk_journal.specs.Journal.{header, IsJournal, IsAtRest, IsRecord};
+ghost use Rattle.disk_journal.specs.Journal.{header, IsJournal, EndsAt, IsRecord};
 ghost use Rattle.disk_journal.specs.Answers.{Refuses};
 ghost use Rattle.disk_journal.specs.declared.fault.JournalFault.TheVariants.{Failed};
 
 use crate::JournalFault;
-use crate::journal::BODY_BYTES;
+use crate::limits::{BODY_BYTES, FRAME_BYTES, HEADER_BYTES};
 use cells_base::Text;
 use std::alloc::Global;
 
 /// What a journal begins with. A gate follows it.
-pub const HEADER: [u8; 16] = *b"cells-journal-01";
-
-/// The length of the header in bytes, and the place of the first gate.
-pub const HEADER_BYTES: usize = 16;
+const HEADER: [u8; HEADER_BYTES] = *b"cells-journal-01";
 
 /// The bodies of a journal, and the place of its first closed gate.
 #[derive(Drop)]
@@ -23,14 +20,14 @@ pub struct Records {
 
 fn begins_with_header(bytes: &[u8]) -> bool
     requires { HEADER_BYTES ≤ length bytes.now }
-    ensures { IsTrue result ↔ (take 16 bytes.now ≡ header) }
+    ensures { IsTrue result ↔ (take HEADER_BYTES bytes.now ≡ header) }
 {
     &bytes[..HEADER_BYTES] == HEADER.as_slice()
 }
 
 // The body behind an open gate: its length in four bytes, the most significant first, the body, and the next gate.
 fn body_of(behind: &[u8]) -> Option<&[u8]>
-    ensures { MatchOption result ((body : List ℕ) → IsRecord body behind.now → ⊥) (λ body. IsRecord body.now behind.now) }
+    ensures { MatchOption result ((b : List ℕ) → IsRecord b behind.now → ⊥) (λ b. IsRecord b.now behind.now) }
 {
     let [a, b, c, d, rest @ ..] = behind else {
         return None;
@@ -45,7 +42,7 @@ fn body_of(behind: &[u8]) -> Option<&[u8]>
 /// The bodies up to the first closed gate.
 pub fn read_records(alloc: Global, bytes: &[u8]) -> Result<Records, JournalFault>
     ensures bodies { IfOk result (λ read. IsJournal bytes.now read.bodies.items) }
-    ensures front { IfOk result (λ read. IsAtRest (take (read.gate + 1) bytes.now) read.gate read.bodies.items) }
+    ensures front { IfOk result (λ read. EndsAt (take (read.gate + 1) bytes.now) read.gate read.bodies.items) }
     ensures within { IfOk result (λ read. read.gate < length bytes.now) }
     ensures refused { Refuses result bytes.now }
     ensures no_call { IsErrOf result JournalFault.Failed → ⊥ }
@@ -60,7 +57,7 @@ pub fn read_records(alloc: Global, bytes: &[u8]) -> Result<Records, JournalFault
             return Err(JournalFault::NotAJournal { at: gate as u64 });
         };
         bodies.push(Text::from_slice(alloc, body)?)?;
-        gate += 5 + body.len();
+        gate += FRAME_BYTES + body.len();
     }
     Ok(Records { bodies, gate })
 }

@@ -5,6 +5,7 @@ use crate::{
     Bodies, Disk, FailingCall, FileDisk, FuseDisk, Journal, JournalFault, MemoryDisk, make,
 };
 use std::alloc::Global;
+use std::fs;
 use std::test::Fail;
 
 const ROOM: usize = 4_096;
@@ -175,13 +176,42 @@ fn what_stands_behind_the_closed_gate_is_cut(rt: HostRuntime) -> Result<(), Fail
     Ok(())
 }
 
+// Takes the files of file 8 and 9 away, and the folder where it is empty then.
+fn clear(rt: &HostRuntime) {
+    let _ = fs::remove_file(rt, "cells-data/cell-8.journal");
+    let _ = fs::remove_file(rt, "cells-data/cell-9.journal");
+    let _ = fs::remove_dir(rt, "cells-data");
+}
+
 #[test]
-fn a_real_file_keeps_a_body(rt: HostRuntime) -> Result<(), Fail> {
+fn a_real_file_keeps_a_body_in_a_new_folder(rt: HostRuntime) -> Result<(), Fail> {
     let alloc = rt.alloc();
-    let mut disk = FileDisk::new(rt, alloc)?;
-    disk.cut(7, 0)?;
-    begin(alloc, &mut disk, 7, &ENTRY)?;
-    let bytes = contents(alloc, &mut disk, 7)?;
+    clear(&rt);
+    let mut first = FileDisk::new(&rt, alloc)?;
+    assert_eq!(rt; first.size(9)?, 0);
+    first.sync(9)?;
+    begin(alloc, &mut first, 8, &ENTRY)?;
+    drop(first);
+    let mut second = FileDisk::new(&rt, alloc)?;
+    let bytes = contents(alloc, &mut second, 8)?;
     assert_eq!(rt; bytes.as_slice(), JOURNAL.as_slice());
+    let mut past = [0u8; 2];
+    assert!(rt; second.read(8, 64, &mut past).is_err());
+    assert!(rt; second.read(9, 0, &mut past).is_err());
+    clear(&rt);
+    Ok(())
+}
+
+#[test]
+fn a_real_file_has_one_owner(rt: HostRuntime) -> Result<(), Fail> {
+    let alloc = rt.alloc();
+    let mut first = FileDisk::new(&rt, alloc)?;
+    first.write_at(7, 0, b"a")?;
+    let mut second = FileDisk::new(&rt, alloc)?;
+    assert!(rt; second.size(7).is_err());
+    first.cut(7, 0)?;
+    drop(first);
+    assert_eq!(rt; second.size(7)?, 0);
+    let _ = fs::remove_file(&rt, "cells-data/cell-7.journal");
     Ok(())
 }

@@ -6,20 +6,12 @@ use Rattle.std.specs.List.{AllByRecursion, AllPairs, IsDistinct, list_any}
 use Rattle.std.specs.Cmp.Derive.{both_true}
 use Rattle.std.proofs.lemmas.List.Folds.{list_any-append}
 use Rattle.std.proofs.lemmas.Map.Made.{AllPairs-from_IsDistinct, IsDistinct-from_AllPairs}
-use Rattle.cells_base.proofs.Maps.{and_split}
+use Rattle.cells_base.proofs.Truth.{and_split, neither, false_of_not}
 use Rattle.claim_types.proofs.Equal.{Decides-key}
 use Rattle.claim_types.specs.Order.{key_eq}
 use Rattle.claim_types.specs.declared.key.ClaimKey.{ClaimKey}
 use Rattle.claim_types.specs.declared.operations.Create.{Create}
 use Rattle.entry_codec.specs.Reading.{are_distinct, are_creates_distinct}
-
-not_true : (b : Bool) → not b ≡ true → b ≡ false
-not_true true h = cc
-not_true false h = refl
-
-neither : (a b : Bool) → (a || b) ≡ false → (a ≡ false) × (b ≡ false)
-neither true b h = cc
-neither false b h = (refl, h)
 
 none_any : {A : Type 0} (p : A → Bool) (xs : List A) → list_any p xs ≡ false → AllByRecursion (λ y. p y ≡ false) xs
 none_any p [] h = tt
@@ -34,7 +26,7 @@ unfolding IsDistinct
 to_distinct [] h = tt
 to_distinct (key ∷ keys) h =
     let both = and_split (not (list_any (λ other. key_eq key other) keys)) (are_distinct keys) h in
-    (none_any (λ other. key_eq key other) keys (not_true (list_any (λ other. key_eq key other) keys) both.0), to_distinct keys both.1)
+    (none_any (λ other. key_eq key other) keys (false_of_not (list_any (λ other. key_eq key other) keys) both.0), to_distinct keys both.1)
 
 from_distinct : (keys : List ClaimKey) → IsDistinct key_eq keys → are_distinct keys ≡ true
 unfolding IsDistinct

@@ -10,7 +10,8 @@ use Rattle.claim_types.specs.declared.entry.ServiceEntry.{ServiceEntry}
 use Rattle.claim_types.specs.declared.entry.ServiceEntry.TheVariants.{Begun, Settled, Given}
 use Rattle.claim_types.specs.declared.record.Change.{Change}
 use Rattle.claim_types.specs.declared.record.Change.TheVariants as change
-use Rattle.entry_codec.specs.Grammar.{IsChange, IsRange, IsServiceEntry, IsCellEntry}
+use Rattle.claim_types.specs.Bounds.{IsRange}
+use Rattle.claim_types.specs.EntryBounds.{IsChange, IsServiceEntry, IsCellEntry}
 use Rattle.entry_codec.specs.Reading as reading
 use Rattle.entry_codec.specs.Reading.{Part, ◌>>=◌, both, whole}
 use Rattle.entry_codec.specs.Spelling as spell
@@ -47,13 +48,13 @@ range-IsPart = mapped-IsPart _ (λ (range : Range). (range.cell, (range.number, 
     (λ found fits. record { cell = fits.0; number = fits.1.0; ends = fits.1.1 }) (λ range is. (is.cell, (is.number, is.ends)))
 
 service_again : (entry : ServiceEntry) (rest : List ℕ) → IsServiceEntry entry → reading.service_entry_at (spell.service_entry_bytes entry ++ rest) ≡ Some (entry, rest)
-unfolding reading.service_entry_at reading.begun_at reading.settled_at reading.given_at
+unfolding spell.service_entry_bytes reading.service_entry_at reading.begun_at reading.settled_at reading.given_at
 service_again (Begun lease ops) rest is = again (λ found. Begun found.0 found.1) (both-IsPart lease-IsPart operations-IsPart) (lease, ops) rest (is.0, is.1)
 service_again (Settled lease how) rest is = again (λ found. Settled found.0 found.1) (both-IsPart lease-IsPart how-IsPart) (lease, how) rest (is, tt)
 service_again (Given range) rest is = again (λ range. Given range) range-IsPart range rest is
 
 service-IsPart : IsPart spell.service_entry_bytes IsServiceEntry reading.service_entry_at
-unfolding reading.service_entry_at reading.begun_at reading.settled_at reading.given_at
+unfolding spell.service_entry_bytes reading.service_entry_at reading.begun_at reading.settled_at reading.given_at
 service-IsPart = record {
   takes = tagged_takes
       (coded-Arms (mapped-Arm 1 _ (both-IsPart lease-IsPart operations-IsPart) (λ found. refl) (λ found fits. (fits.0, fits.1)))
@@ -65,14 +66,14 @@ service-IsPart = record {
 -- ---- entries of a cell
 
 cell_entry_again : (entry : CellEntry) (rest : List ℕ) → IsCellEntry entry → reading.cell_entry_at (spell.cell_entry_bytes entry ++ rest) ≡ Some (entry, rest)
-unfolding reading.cell_entry_at reading.epoch_entry_at reading.recorded_at reading.row_gone_at reading.got_at
+unfolding spell.cell_entry_bytes reading.cell_entry_at reading.epoch_entry_at reading.recorded_at reading.row_gone_at reading.got_at
 cell_entry_again (Epoch epoch) rest is = again (λ epoch. Epoch epoch) epoch-IsPart epoch rest is
 cell_entry_again (Recorded lease change ops) rest is = again (λ found. Recorded found.0 found.1.0 found.1.1) (both-IsPart lease-IsPart (both-IsPart change-IsPart operations-IsPart)) (lease, (change, ops)) rest (is.0, (is.1, is.2))
 cell_entry_again (RowGone lease) rest is = again (λ lease. RowGone lease) lease-IsPart lease rest is
 cell_entry_again (Got number low high) rest is = again (λ found. Got found.0 found.1.0 found.1.1) (both-IsPart range_number-IsPart ends-IsPart) (number, (low, high)) rest (is.0, is.1)
 
 cell_entry-IsPart : IsPart spell.cell_entry_bytes IsCellEntry reading.cell_entry_at
-unfolding reading.cell_entry_at reading.epoch_entry_at reading.recorded_at reading.row_gone_at reading.got_at
+unfolding spell.cell_entry_bytes reading.cell_entry_at reading.epoch_entry_at reading.recorded_at reading.row_gone_at reading.got_at
 cell_entry-IsPart = record {
   takes = tagged_takes
       (coded-Arms (mapped-Arm 17 _ epoch-IsPart (λ epoch. refl) (λ epoch fits. fits))

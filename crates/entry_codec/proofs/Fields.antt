@@ -1,19 +1,19 @@
 -- The parts of an entry, each read as it is spelled.
-use Rattle.std.proofs.Common.{◌≡◌, ℕ, ◌^◌, ◌<◌, ◌≤◌, Bool, true, false, ◌&&◌, cond, eqb, leb, ltb, List, [], ◌∷◌, length, map, Option, Some, None, Result, Ok, Err, refl, sym, ap, subst, ◌∙◌, arith, lit<}
+use Rattle.std.proofs.Common.{◌≡◌, ℕ, ◌+◌, ◌^◌, ◌<◌, ◌≤◌, Bool, true, false, ◌&&◌, cond, eqb, leb, List, [], ◌∷◌, length, Some, None, Result, Ok, Err, refl, sym, ap, subst, ◌∙◌, arith, lit<}
 use Rattle.std.specs.Int.{Width, w16, w32, w64, to_be_bytes}
 use Rattle.std.specs.Bool.{Decides}
 use Rattle.std.specs.Str.{bytes_eq}
 use Rattle.std.specs.Cmp.Derive.{both_true}
 use Rattle.std.specs.Cmp.Lexicographic.{bytes_decides}
-use Rattle.std.proofs.lemmas.Bool.{leb-true, le-leb, ltb-false, eqb-true}
+use Rattle.std.proofs.lemmas.Bool.{leb-true, le-leb, eqb-true}
+use Rattle.std.proofs.lemmas.List.Elements.{All-from_recursion, recursion_from_All}
 use Rattle.std.proofs.lemmas.Option.{cond_some}
-use Rattle.cells_base.proofs.Maps.{and_split}
+use Rattle.cells_base.proofs.Truth.{and_split}
 use Rattle.claim_types.proofs.Numbers.{numbered_bucket-number, number_of_bucket, numbered_kind-number, number_of_kind}
-use Rattle.claim_types.specs.Bounds.{IsIdentifier, IsCell, IsSubjectKind, AreEnds}
-use Rattle.claim_types.specs.Keys.{key_of, lowered_key, after_bytes, after_parts, is_reserved, first_bad, parts_of, is_in_alphabet}
-use Rattle.std.specs.Char.{to_ascii_lowercase}
-use Rattle.std.specs.Prelude.{position, not}
-use Rattle.claim_types.specs.declared.key.KeyFault.TheVariants.{Empty, TooLong, Reserved}
+use Rattle.claim_types.specs.Bounds.{IsNumber, IsIdentifier, IsCell, IsSubjectKind, AreEnds, IsKey, IsSubject, IsOrigin, IsCreate, IsIdentifierOrZero, IsRangeNumber}
+use Rattle.claim_types.specs.EntryBounds.{AreEntryOperations, IsName, IsEpoch}
+use Rattle.claim_types.proofs.KeyRead.{key_of-says}
+use Rattle.claim_types.specs.Keys.{key_of}
 use Rattle.claim_types.specs.Leases.{IsLease, lease_bytes}
 use Rattle.claim_types.specs.Operations.{AreWellFormed, keys_of, operation_count}
 use Rattle.claim_types.specs.Order.{bucket_number, kind_number}
@@ -22,7 +22,7 @@ use Rattle.claim_types.specs.declared.key.ClaimKey.{ClaimKey}
 use Rattle.claim_types.specs.declared.key.KeyFault.{KeyFault}
 use Rattle.claim_types.specs.declared.lease.How.{How}
 use Rattle.claim_types.specs.declared.lease.How.TheVariants.{Committed, RolledBack}
-use Rattle.claim_types.specs.declared.limits.TheConstants.{GREATEST_IDENTIFIER, GREATEST_CELL, OPERATIONS}
+use Rattle.claim_types.specs.declared.limits.TheConstants.{GREATEST_IDENTIFIER, GREATEST_CELL, GREATEST_EPOCH, GREATEST_NUMBER, OPERATIONS}
 use Rattle.claim_types.specs.declared.operations.Create.{Create}
 use Rattle.claim_types.specs.declared.operations.Operations.{Operations}
 use Rattle.claim_types.specs.declared.operations.Origin.{Origin}
@@ -30,7 +30,6 @@ use Rattle.claim_types.specs.declared.operations.Subject.{Subject}
 use Rattle.claim_types.specs.declared.record.Kind.{Kind}
 use Rattle.claim_types.specs.declared.record.Kind.TheVariants.{Organization, Group, Project, User, Key, Address, Domain}
 use Rattle.entry_codec.specs.Spelling as spell
-use Rattle.entry_codec.specs.Grammar.{IsKey, IsSubject, IsOrigin, IsCreate, AreOperations, IsName, IsParent, IsRangeNumber, IsEpoch}
 use Rattle.entry_codec.specs.Reading as reading
 use Rattle.entry_codec.specs.Reading.{within, from_one, in_order, unchanged, key_from, subject_kind, numbered_how, are_well_formed, well_formed, named}
 use Rattle.entry_codec.proofs.Lease.{lease_found, lease_again}
@@ -45,14 +44,15 @@ within-Converts w limit low high lt =
     (λ n fits is. let both = and_split (leb low n) (leb n high) is in (leb-true _ _ both.0, leb-true _ _ both.1))
     (λ n is. (omega (arith, is.1), both_true (le-leb _ _ is.0) (le-leb _ _ is.1)))
 
-from_one-Converts : (w : Width) (limit : ℕ) → Converts (to_be_bytes w) (λ n. n < limit) from_one (to_be_bytes w) (λ n. (1 ≤ n) × (n < limit))
-from_one-Converts w limit = test-Converts (λ n. leb 1 n) (λ n fits is. (leb-true _ _ is, fits)) (λ n is. (is.1, le-leb _ _ is.0))
+from_one-Converts : (w : Width) (limit most : ℕ) → limit ≡ most + 1 → Converts (to_be_bytes w) (λ n. n < limit) from_one (to_be_bytes w) (λ n. (1 ≤ n) × (n ≤ most))
+from_one-Converts w limit most next =
+    test-Converts (λ n. leb 1 n) (λ n fits is. (leb-true _ _ is, omega (arith, fits, next))) (λ n is. (omega (arith, is.1, next), le-leb _ _ is.0))
 
 pub identifier-IsPart : IsPart (to_be_bytes w64) IsIdentifier reading.identifier_at
 unfolding reading.identifier_at
 identifier-IsPart = converted-IsPart (number-IsPart w64 (2 ^ 64) wide64) (within-Converts w64 (2 ^ 64) 1 GREATEST_IDENTIFIER (lit< tt))
 
-pub parent-IsPart : IsPart (to_be_bytes w64) IsParent reading.parent_at
+pub parent-IsPart : IsPart (to_be_bytes w64) IsIdentifierOrZero reading.parent_at
 unfolding reading.parent_at
 parent-IsPart = converted-IsPart (number-IsPart w64 (2 ^ 64) wide64)
     (test-Converts (λ n. leb 0 n && leb n GREATEST_IDENTIFIER)
@@ -65,11 +65,11 @@ cell-IsPart = converted-IsPart (number-IsPart w16 (2 ^ 16) wide16) (within-Conve
 
 pub range_number-IsPart : IsPart (to_be_bytes w64) IsRangeNumber reading.range_number_at
 unfolding reading.range_number_at
-range_number-IsPart = converted-IsPart (number-IsPart w64 (2 ^ 64) wide64) (from_one-Converts w64 (2 ^ 64))
+range_number-IsPart = converted-IsPart (number-IsPart w64 (2 ^ 64) wide64) (from_one-Converts w64 (2 ^ 64) GREATEST_NUMBER refl)
 
 pub epoch-IsPart : IsPart (to_be_bytes w32) IsEpoch reading.epoch_at
 unfolding reading.epoch_at
-epoch-IsPart = converted-IsPart (number-IsPart w32 (2 ^ 32) wide32) (from_one-Converts w32 (2 ^ 32))
+epoch-IsPart = converted-IsPart (number-IsPart w32 (2 ^ 32) wide32) (from_one-Converts w32 (2 ^ 32) GREATEST_EPOCH refl)
 
 pub ends-IsPart : IsPart (λ (ends : ℕ × ℕ). spell.ends_bytes ends.0 ends.1) (λ (ends : ℕ × ℕ). AreEnds ends.0 ends.1) reading.ends_at
 unfolding reading.ends_at
@@ -144,41 +144,6 @@ lease-IsPart = converted-IsPart (bytes-IsPart 16) (record {
   forth = λ lease is. (lease_bytes lease, lease_again lease is, refl, refl);
 })
 
-abbrev ReadsFrom : Bucket → Result ClaimKey KeyFault → Type 0
-ReadsFrom bucket (Ok key) = key.bucket ≡ bucket
-ReadsFrom bucket (Err fault) = Unit {0}
-
--- a key has the bucket that it was read for
-by_test : (bucket : Bucket) (b : Bool) (x y : Result ClaimKey KeyFault) → ReadsFrom bucket x → ReadsFrom bucket y → ReadsFrom bucket (cond b x y)
-by_test bucket true x y p q = p
-by_test bucket false x y p q = q
-
-by_parts : (bucket : Bucket) (value : List ℕ) (bad : Option ℕ) → ReadsFrom bucket (after_parts bucket value bad)
-by_parts bucket value (Some index) = tt
-by_parts bucket value None = by_test bucket (is_reserved bucket value) (Err Reserved) (Ok (record { bucket = bucket; value = value })) tt refl
-
-by_bytes : (bucket : Bucket) (value : List ℕ) (bad : Option ℕ) → ReadsFrom bucket (after_bytes bucket value bad)
-by_bytes bucket value (Some index) = tt
-by_bytes bucket value None = by_parts bucket value (first_bad bucket (parts_of bucket value))
-
-of_bucket : (bucket : Bucket) (text : List ℕ) → ReadsFrom bucket (key_of bucket text)
-of_bucket bucket text =
-    let small = map to_ascii_lowercase text in
-    let read = lowered_key bucket small in
-    by_test bucket (eqb (length text) 0) (Err Empty) (cond (ltb 255 (length text)) (Err TooLong) read) tt
-    (by_test bucket (ltb 255 (length text)) (Err TooLong) read tt (by_bytes bucket small (position (λ b. not (is_in_alphabet bucket b)) small)))
-
--- a text that gives a key has at most 255 bytes
-not_short : (b : Bool) (fault : KeyFault) (x : Result ClaimKey KeyFault) (key : ClaimKey) → cond b (Err fault) x ≡ Ok key → (b ≡ false) × (x ≡ Ok key)
-not_short true fault x key e = absurd cc
-not_short false fault x key e = (refl, e)
-
-few_bytes : (bucket : Bucket) (text : List ℕ) (key : ClaimKey) → key_of bucket text ≡ Ok key → length text < 256
-few_bytes bucket text key e =
-    let some = not_short (eqb (length text) 0) Empty (cond (ltb 255 (length text)) (Err TooLong) (lowered_key bucket (map to_ascii_lowercase text))) key e in
-    let few = not_short (ltb 255 (length text)) TooLong (lowered_key bucket (map to_ascii_lowercase text)) key some.1 in
-    omega (arith, ltb-false 255 (length text) few.0)
-
 unchanged_is : (value : List ℕ) (read : Result ClaimKey KeyFault) (key : ClaimKey) → unchanged value read ≡ Some key → (read ≡ Ok key) × (key.value ≡ value)
 unchanged_is value (Ok other) key e =
     let is = cond_some (bytes_eq other.value value) other key e in
@@ -189,7 +154,7 @@ key_back : (bucket : Bucket) (value : List ℕ) (key : ClaimKey) → key_from (b
 unfolding key_from
 key_back bucket value key e =
     let is = unchanged_is value (key_of bucket value) key e in
-    let from : key.bucket ≡ bucket = subst (ReadsFrom bucket) is.0 (of_bucket bucket value) in
+    let from = (key_of-says bucket value key is.0).bucket_is in
     (from, is.1, record { unchanged = ap (λ (b : Bucket). key_of b key.value) from ∙ ap (λ (v : List ℕ). key_of bucket v) is.1 ∙ is.0 })
 
 key_forth : (key : ClaimKey) → IsKey key → key_from (key.bucket, key.value) ≡ Some key
@@ -202,7 +167,7 @@ key-IsPart = converted-IsPart (both-IsPart bucket-IsPart text-IsPart) (record {
   back = λ found key fits e.
       let is = key_back found.0 found.1 key e in
       (ap (λ (b : Bucket). bucket_number b ∷ spell.text_bytes found.1) (sym is.0) ∙ ap (λ (v : List ℕ). bucket_number key.bucket ∷ spell.text_bytes v) (sym is.1), is.2);
-  forth = λ key is. ((key.bucket, key.value), key_forth key is, (tt, few_bytes key.bucket key.value key is.unchanged), refl);
+  forth = λ key is. ((key.bucket, key.value), key_forth key is, (tt, omega (arith, (key_of-says key.bucket key.value key is.unchanged).not_too_long)), refl);
 })
 
 pub name-IsPart : IsPart spell.text_bytes IsName reading.name_at
@@ -250,17 +215,20 @@ Decides-well_formed ops =
           both_true (both_true (both_true (le-leb _ _ is.some) (le-leb _ _ is.not_too_many)) both.0) both.1,
     )
 
-pub operations-IsPart : IsPart spell.operations_bytes AreOperations reading.operations_at
+few_fit : (ops : Operations) → AreWellFormed ops → IsNumber (operation_count ops)
+few_fit ops is = omega (arith, is.not_too_many)
+
+pub operations-IsPart : IsPart spell.operations_bytes AreEntryOperations reading.operations_at
 unfolding reading.operations_at
 operations-IsPart = converted-IsPart (both-IsPart (list-IsPart create-IsPart) (list-IsPart key-IsPart)) (record {
   back = λ found ops fits e.
       let made : Operations = record { creates = found.0; destroys = found.1 } in
       let is = cond_some (are_well_formed made) made ops e in
-      (ap spell.operations_bytes is.1, subst AreOperations is.1 (record { well_formed = (Decides-well_formed made).0 is.0; creates = fits.0.1; destroys = fits.1.1 }));
+      (ap spell.operations_bytes is.1, subst AreEntryOperations is.1 (record { well_formed = (Decides-well_formed made).0 is.0; bounds = record { number = few_fit made ((Decides-well_formed made).0 is.0); creates = All-from_recursion IsCreate found.0 fits.0.1; destroys = All-from_recursion IsKey found.1 fits.1.1 } }));
   forth = λ ops is. (
     (ops.creates, ops.destroys),
     ap (λ (b : Bool). cond b (Some ops) None) ((Decides-well_formed ops).1 is.well_formed),
-    ((omega (arith, is.well_formed.not_too_many), is.creates), (omega (arith, is.well_formed.not_too_many), is.destroys)),
+    ((omega (arith, is.well_formed.not_too_many), recursion_from_All IsCreate ops.creates is.bounds.creates), (omega (arith, is.well_formed.not_too_many), recursion_from_All IsKey ops.destroys is.bounds.destroys)),
     refl,
   );
 })

@@ -5,7 +5,7 @@ use Rattle.std.specs.Str.{bytes_eq}
 use Rattle.std.specs.Cmp.Lexicographic.{bytes_decides}
 use Rattle.std.proofs.lemmas.Bool.{leb-true}
 use Rattle.std.proofs.lemmas.Option.{cond_some}
-use Rattle.cells_base.proofs.Maps.{and_split}
+use Rattle.cells_base.proofs.Truth.{and_split}
 use Rattle.claim_types.proofs.LeaseBits.{lease_in-lease_bytes}
 use Rattle.claim_types.specs.Leases.{IsLease, lease_bytes, is_lease, four_at, numbers_in, lease_in}
 use Rattle.claim_types.specs.declared.lease.LeaseId.{LeaseId}
@@ -30,7 +30,7 @@ within_bounds lease h epoch =
       cell_least = leb-true _ _ one.0;
       cell_most = leb-true _ _ one.1;
       epoch_least = leb-true _ _ two.1;
-      epoch_most = epoch;
+      epoch_most = omega (arith, epoch);
       attempt_least = leb-true _ _ three.1;
       attempt_most = leb-true _ _ four.1;
     }

@@ -4,4 +4,5 @@ pub mod Laws
 pub mod Distinct
 pub mod Fields
 pub mod Entries
+pub mod Lengths
 pub mod Written

@@ -1,8 +1,7 @@
 -- Bytes that are pushed one after the other.
 use Rattle.std.proofs.Common.{◌≡◌, ℕ, ◌+◌, ◌<◌, List, [], ◌∷◌, ◌++◌, length, take, get_or, Result, sym, ap, subst, ◌∙◌, append_assoc}
-use Rattle.std.specs.List.{flat_map, AllByRecursion}
+use Rattle.std.specs.List.{flat_map, All}
 use Rattle.std.proofs.lemmas.List.{take_more, flat_map_more}
-use Rattle.std.proofs.lemmas.List.Elements.{All-from_recursion}
 use Rattle.std.specs.Prelude.{OnOk}
 use Rattle.std.proofs.lemmas.Result.{on_ok_weaker}
 
@@ -29,5 +28,5 @@ pushed {A} f xs i x n o p q lt is so_far last =
     ∙ ap (λ (ys : List A). o ++ n ∷ flat_map f ys) (sym more)
 
 -- what holds of all holds of the one at a place
-pub holds_at : {A : Type 0} (P : A → Type 0) (xs : List A) (i : ℕ) (x : A) → i < length xs → x ≡ get_or xs i x → AllByRecursion P xs → P x
-holds_at P xs i x lt is all = subst P (sym is) (All-from_recursion P xs all i x lt)
+pub holds_at : {A : Type 0} (P : A → Type 0) (xs : List A) (i : ℕ) (x : A) → i < length xs → x ≡ get_or xs i x → All P xs → P x
+holds_at P xs i x lt is all = subst P (sym is) (all i x lt)

@@ -1,3 +1,3 @@
 pub mod Spelling
-pub mod Grammar
 pub mod Reading
+pub mod Bodies

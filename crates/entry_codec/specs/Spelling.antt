@@ -1,5 +1,5 @@
 -- The bytes of an entry, as a function of the entry. A number has its highest byte first.
-use Rattle.std.specs.Prelude.{ℕ, List, [], ◌∷◌, ◌++◌, length}
+use Rattle.std.specs.Prelude.{ℕ, ◌≤◌, List, [], ◌∷◌, ◌++◌, length}
 use Rattle.std.specs.List.{flat_map}
 use Rattle.std.specs.Int.{w16, w32, w64, to_be_bytes}
 use Rattle.claim_types.specs.Leases.{lease_bytes}
@@ -18,6 +18,7 @@ use Rattle.claim_types.specs.declared.operations.Origin.{Origin}
 use Rattle.claim_types.specs.declared.operations.Subject.{Subject}
 use Rattle.claim_types.specs.declared.record.Change.{Change}
 use Rattle.claim_types.specs.declared.record.Change.TheVariants as change
+use Rattle.entry_codec.specs.declared.limits.TheConstants.{ENTRY_BYTES}
 
 -- a text: its length in one byte, and it
 abbrev pub text_bytes : List ℕ → List ℕ
@@ -67,14 +68,19 @@ abbrev pub range_bytes : Range → List ℕ
 range_bytes range = to_be_bytes w16 range.cell ++ (to_be_bytes w64 range.number ++ ends_bytes range.low range.high)
 
 -- an entry of the service: its first byte, and its parts in order
-abbrev pub service_entry_bytes : ServiceEntry → List ℕ
+unfoldable pub service_entry_bytes : ServiceEntry → List ℕ
 service_entry_bytes (Begun lease ops) = 1 ∷ (lease_bytes lease ++ operations_bytes ops)
 service_entry_bytes (Settled lease how) = 2 ∷ (lease_bytes lease ++ (how_number how ∷ []))
 service_entry_bytes (Given range) = 3 ∷ range_bytes range
 
 -- an entry of a cell: its first byte, and its parts in order
-abbrev pub cell_entry_bytes : CellEntry → List ℕ
+unfoldable pub cell_entry_bytes : CellEntry → List ℕ
 cell_entry_bytes (Epoch epoch) = 17 ∷ to_be_bytes w32 epoch
 cell_entry_bytes (Recorded lease change ops) = 18 ∷ (lease_bytes lease ++ (change_bytes change ++ operations_bytes ops))
 cell_entry_bytes (RowGone lease) = 19 ∷ lease_bytes lease
 cell_entry_bytes (Got number low high) = 20 ∷ (to_be_bytes w64 number ++ ends_bytes low high)
+
+-- what a journal takes as a body
+pub record IsBody (bytes : List ℕ) : Type 0 where
+  pub some : 1 ≤ length bytes
+  pub not_too_long : length bytes ≤ ENTRY_BYTES

@@ -23,14 +23,16 @@
 //! let again = read_service(alloc, body.as_slice())?;      // the entry
 //! ```
 //!
-//! Promised: a writer gives the entry's one body, as `specs/Spelling` states it. A reader gives an
+//! Promised: a writer gives the entry's one body, as `specs/Spelling` states it; it has 1 to 65,536
+//! bytes, as a journal takes it. A reader gives an
 //! entry exactly where the body is that entry's, to its last byte, and the entry is within the
-//! grammar of `specs/Grammar`; it gives `None` exactly where there is no such entry. No body is that
+//! bounds of `claim_types/specs/EntryBounds`; it gives `None` exactly where there is no such entry. No body is that
 //! of two entries ([`one_service_entry`], [`one_cell_entry`]). Whether an entry may come in its turn
 //! is no matter of this crate.
 #![tactic(auto)]
 
 mod codes;
+mod limits;
 mod operations;
 mod parts;
 mod reading;
@@ -38,6 +40,7 @@ mod unread;
 mod writing;
 
 pub use claim_types::{CellEntry, ServiceEntry};
+pub use limits::ENTRY_BYTES;
 pub use reading::{one_cell_entry, one_service_entry, read_cell, read_service};
 pub use writing::{write_cell, write_row_gone, write_service};
 

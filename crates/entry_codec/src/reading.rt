@@ -2,10 +2,11 @@
 ghost use Rattle.std.specs.Prelude.{◌≡◌, IfOk, IfSome, IfNone, Some};
 ghost use Rattle.claim_types.specs.declared.entry.CellEntry.{CellEntry};
 ghost use Rattle.claim_types.specs.declared.entry.ServiceEntry.{ServiceEntry};
-ghost use Rattle.entry_codec.specs.Grammar.{IsServiceEntry, IsCellEntry};
+ghost use Rattle.claim_types.specs.EntryBounds.{IsServiceEntry, IsCellEntry};
 ghost use Rattle.entry_codec.specs.Reading as reading;
 ghost use Rattle.entry_codec.specs.Reading.{Gives};
 ghost use Rattle.entry_codec.specs.Spelling.{service_entry_bytes, cell_entry_bytes};
+ghost use Rattle.entry_codec.specs.Bodies.{IsServiceBody, IsCellBody, IsNoServiceBody, IsNoCellBody, FindsService, FindsCell};
 
 use crate::codes::{BEGUN, CREATE, EPOCH, GIVEN, GOT, RECORDED, REMOVE, RENAME, ROW_GONE, SETTLED};
 use crate::operations::operations_at;
@@ -156,11 +157,12 @@ fn whole_service_entry(alloc: Global, body: &[u8]) -> Result<ServiceEntry, Unrea
 }
 
 /// The entry that a body of the service's journal is, or `None` exactly where it is none: it has not
-/// the form of `specs/Spelling` to its last byte, or something in it is outside `specs/Grammar`.
+/// the form of `specs/Spelling` to its last byte, or something in it is outside the bounds of
+/// `claim_types/specs/EntryBounds`.
 pub fn read_service(alloc: Global, body: &[u8]) -> Result<Option<ServiceEntry>, NoMemory>
-    ensures some { IfOk result (λ found. IfSome found (λ entry. IsServiceEntry entry × (service_entry_bytes entry ≡ body.now))) }
-    ensures only { (entry : ServiceEntry) → IsServiceEntry entry → service_entry_bytes entry ≡ body.now → IfOk result (λ found. found ≡ Some entry) }
-    ensures none { IfOk result (λ found. IfNone found ((entry : ServiceEntry) → IsServiceEntry entry → service_entry_bytes entry ≡ body.now → ⊥)) }
+    ensures some { IfOk result (λ found. IfSome found (IsServiceBody body.now)) }
+    ensures only { FindsService result body.now }
+    ensures none { IfOk result (λ found. IfNone found (IsNoServiceBody body.now)) }
 {
     match whole_service_entry(alloc, body) {
         Ok(entry) => Ok(Some(entry)),
@@ -180,11 +182,12 @@ fn whole_cell_entry(alloc: Global, body: &[u8]) -> Result<CellEntry, Unread>
 }
 
 /// The entry that a body of a cell's journal is, or `None` exactly where it is none: it has not
-/// the form of `specs/Spelling` to its last byte, or something in it is outside `specs/Grammar`.
+/// the form of `specs/Spelling` to its last byte, or something in it is outside the bounds of
+/// `claim_types/specs/EntryBounds`.
 pub fn read_cell(alloc: Global, body: &[u8]) -> Result<Option<CellEntry>, NoMemory>
-    ensures some { IfOk result (λ found. IfSome found (λ entry. IsCellEntry entry × (cell_entry_bytes entry ≡ body.now))) }
-    ensures only { (entry : CellEntry) → IsCellEntry entry → cell_entry_bytes entry ≡ body.now → IfOk result (λ found. found ≡ Some entry) }
-    ensures none { IfOk result (λ found. IfNone found ((entry : CellEntry) → IsCellEntry entry → cell_entry_bytes entry ≡ body.now → ⊥)) }
+    ensures some { IfOk result (λ found. IfSome found (IsCellBody body.now)) }
+    ensures only { FindsCell result body.now }
+    ensures none { IfOk result (λ found. IfNone found (IsNoCellBody body.now)) }
 {
     match whole_cell_entry(alloc, body) {
         Ok(entry) => Ok(Some(entry)),
@@ -195,10 +198,12 @@ pub fn read_cell(alloc: Global, body: &[u8]) -> Result<Option<CellEntry>, NoMemo
 
 /// No body is the form of two entries of the service's journal.
 pub fn one_service_entry()
-    ensures { (a b : ServiceEntry) → IsServiceEntry a → IsServiceEntry b → service_entry_bytes a ≡ service_entry_bytes b → a ≡ b }
+    ensures { (a b : ServiceEntry) → IsServiceEntry a → IsServiceEntry b →
+        service_entry_bytes a ≡ service_entry_bytes b → a ≡ b }
 {}
 
 /// No body is the form of two entries of a cell's journal.
 pub fn one_cell_entry()
-    ensures { (a b : CellEntry) → IsCellEntry a → IsCellEntry b → cell_entry_bytes a ≡ cell_entry_bytes b → a ≡ b }
+    ensures { (a b : CellEntry) → IsCellEntry a → IsCellEntry b →
+        cell_entry_bytes a ≡ cell_entry_bytes b → a ≡ b }
 {}

@@ -1,11 +1,13 @@
 //! The body of an entry, part by part.
 ghost use Rattle.std.specs.Prelude.{◌≡◌, ◌<◌, ◌∷◌, [], ◌++◌, length, IfOk, OnOk};
 ghost use Rattle.std.specs.Int.{w64, to_be_bytes};
-ghost use Rattle.std.specs.List.{AllByRecursion};
+ghost use Rattle.std.specs.List.{All};
 ghost use Rattle.claim_types.specs.Leases.{IsLease, lease_bytes};
 ghost use Rattle.claim_types.specs.declared.entry.CellEntry.TheVariants.{RowGone};
-ghost use Rattle.entry_codec.specs.Grammar.{IsKey, IsCreate, AreOperations, IsChange, IsServiceEntry, IsCellEntry};
+ghost use Rattle.claim_types.specs.Bounds.{IsKey, IsCreate};
+ghost use Rattle.claim_types.specs.EntryBounds.{AreEntryOperations, IsChange, IsServiceEntry, IsCellEntry};
 ghost use Rattle.entry_codec.specs.Spelling as spell;
+ghost use Rattle.entry_codec.specs.Spelling.{IsBody};
 
 use crate::codes::{
     BEGUN, COMMITTED, CREATE, EPOCH, GIVEN, GOT, RECORDED, REMOVE, RENAME, ROLLED_BACK, ROW_GONE,
@@ -69,7 +71,7 @@ fn push_create(out: &mut Vec<u8>, create: &Create) -> Result<(), NoMemory>
 
 fn push_creates(out: &mut Vec<u8>, creates: &[Create]) -> Result<(), NoMemory>
     requires few { length creates.now < 256 }
-    requires each { AllByRecursion IsCreate creates.now }
+    requires each { All IsCreate creates.now }
     ensures { OnOk result (out.new.items ≡ out.old.items ++ spell.list_bytes spell.create_bytes creates.now) }
 {
     out.push(creates.len() as u8)?;
@@ -81,7 +83,7 @@ fn push_creates(out: &mut Vec<u8>, creates: &[Create]) -> Result<(), NoMemory>
 
 fn push_keys(out: &mut Vec<u8>, keys: &[ClaimKey]) -> Result<(), NoMemory>
     requires few { length keys.now < 256 }
-    requires each { AllByRecursion IsKey keys.now }
+    requires each { All IsKey keys.now }
     ensures { OnOk result (out.new.items ≡ out.old.items ++ spell.list_bytes spell.key_bytes keys.now) }
 {
     out.push(keys.len() as u8)?;
@@ -92,7 +94,7 @@ fn push_keys(out: &mut Vec<u8>, keys: &[ClaimKey]) -> Result<(), NoMemory>
 }
 
 fn push_operations(out: &mut Vec<u8>, ops: &Operations) -> Result<(), NoMemory>
-    requires { AreOperations ops.now }
+    requires { AreEntryOperations ops.now }
     ensures { OnOk result (out.new.items ≡ out.old.items ++ spell.operations_bytes ops.now) }
 {
     push_creates(out, ops.creates.as_slice())?;
@@ -154,6 +156,7 @@ fn how_code(how: How) -> u8
     }
 }
 
+#[tactic(auto, unfolding(crate::specs::Spelling::service_entry_bytes))]
 fn push_service_entry(out: &mut Vec<u8>, entry: &ServiceEntry) -> Result<(), NoMemory>
     requires { IsServiceEntry entry.now }
     ensures { OnOk result (out.new.items ≡ out.old.items ++ spell.service_entry_bytes entry.now) }
@@ -177,6 +180,7 @@ fn push_service_entry(out: &mut Vec<u8>, entry: &ServiceEntry) -> Result<(), NoM
     }
 }
 
+#[tactic(auto, unfolding(crate::specs::Spelling::cell_entry_bytes))]
 fn push_cell_entry(out: &mut Vec<u8>, entry: &CellEntry) -> Result<(), NoMemory>
     requires { IsCellEntry entry.now }
     ensures { OnOk result (out.new.items ≡ out.old.items ++ spell.cell_entry_bytes entry.now) }
@@ -208,7 +212,8 @@ fn push_cell_entry(out: &mut Vec<u8>, entry: &CellEntry) -> Result<(), NoMemory>
 /// The body of an entry of the service's journal. Its form is in `specs/Spelling`.
 pub fn write_service(alloc: Global, entry: &ServiceEntry) -> Result<Text, NoMemory>
     requires { IsServiceEntry entry.now }
-    ensures { IfOk result (λ body. body ≡ spell.service_entry_bytes entry.now) }
+    ensures body { IfOk result (λ body. body ≡ spell.service_entry_bytes entry.now) }
+    ensures length { IfOk result IsBody }
 {
     let mut out = Vec::with_capacity(alloc, ROOM_BYTES)?;
     push_service_entry(&mut out, entry)?;
@@ -218,7 +223,8 @@ pub fn write_service(alloc: Global, entry: &ServiceEntry) -> Result<Text, NoMemo
 /// The body of an entry of a cell's journal. Its form is in `specs/Spelling`.
 pub fn write_cell(alloc: Global, entry: &CellEntry) -> Result<Text, NoMemory>
     requires { IsCellEntry entry.now }
-    ensures { IfOk result (λ body. body ≡ spell.cell_entry_bytes entry.now) }
+    ensures body { IfOk result (λ body. body ≡ spell.cell_entry_bytes entry.now) }
+    ensures length { IfOk result IsBody }
 {
     let mut out = Vec::with_capacity(alloc, ROOM_BYTES)?;
     push_cell_entry(&mut out, entry)?;
@@ -226,6 +232,7 @@ pub fn write_cell(alloc: Global, entry: &CellEntry) -> Result<Text, NoMemory>
 }
 
 /// The body of a lease's [`CellEntry::RowGone`], which takes no memory.
+#[tactic(auto, unfolding(crate::specs::Spelling::cell_entry_bytes))]
 pub fn write_row_gone(lease: LeaseId) -> [u8; 17]
     requires { IsLease lease }
     ensures { result ≡ spell.cell_entry_bytes (RowGone lease) }

@@ -1,5 +1,14 @@
-pub mod Sorted
-pub mod Named
-pub mod Repeated
-pub mod First
-pub mod Claims
+mod Trees
+mod RowOrder
+mod Named
+mod Repeated
+mod Noted
+mod Naming
+mod BaseCounts
+mod Steps
+mod States
+mod Wholes
+mod Gathering
+mod Paging
+mod First
+mod Parting

@@ -1,4 +1,6 @@
-pub mod Search
+pub mod Rows
 pub mod Kept
 pub mod Whole
+pub mod Lists
+pub mod Gathered
 pub mod Outcomes

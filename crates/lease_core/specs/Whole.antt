@@ -1,18 +1,18 @@
--- What a `Leases` stands for, and what holds of its lists.
-use Rattle.std.specs.Prelude.{◌≡◌, ◌+◌, ◌≤◌, vec_len, vec_capacity}
+-- What a `Leases` stands for, and what holds of its parts.
+use Rattle.std.specs.FinMap as map
 use Rattle.claim_map.specs.State.{LeaseState}
+use Rattle.key_table.specs.Picked.{picked}
 use Rattle.lease_core.specs.declared.leases.Leases.TheInside.{Inside}
-use Rattle.lease_core.specs.Kept.{AreHeld, AreBegun, AreDone, holders, open_leases, settled_leases, creates_of}
+use Rattle.lease_core.specs.Kept.{AreNamed, ArePlaced, AreCounted, HavePlaces, AreApart}
 
--- the three maps that the lists are
+-- the three maps; a settled lease that has not ended is one that is open, or might have been
 abbrev pub state_of : Inside → LeaseState
-state_of s = record { holder = holders s.held.items; begun = open_leases s.begun.items; settled = settled_leases s.done.items }
+state_of s = record { holder = s.keys.holder; open_leases = s.open_leases; settled = picked (λ how. how) s.settled }
 
--- each list is in order, and there is room to settle each open lease and to hold its creates
+-- what the parts know of each other
 pub record IsKept (s : Inside) : Type 0 where
-  pub held : AreHeld s.held.items
-  pub begun : AreBegun s.begun.items
-  pub done : AreDone s.done.items
-  pub counted : s.creates ≡ creates_of s.begun.items
-  pub room_to_hold : vec_len s.held + s.creates ≤ vec_capacity s.held
-  pub room_to_settle : vec_len s.done + vec_len s.begun ≤ vec_capacity s.done
+  pub names : AreNamed (map.get s.keys.named) s.open_leases
+  pub places : ArePlaced s.rows s.keys.holder s.open_leases
+  pub numbers : AreCounted s.open_numbers s.open_leases
+  pub room : HavePlaces s.settled s.open_leases
+  pub apart : AreApart s.open_leases

@@ -64,14 +64,3 @@ impl Copied for BegunItem {
         })
     }
 }
-
-/// A copy of each of these, in order.
-pub fn copies<T: Copied + Drop>(alloc: Global, items: &[T]) -> Result<Items<T>, NoMemory>
-    ensures { IfOk result (λ copied. copied ≡ items.now) }
-{
-    let mut copied = Vec::with_capacity(alloc, items.len())?;
-    for item in items {
-        copied.push(item.copy(alloc)?)?;
-    }
-    Ok(Items::from_vec(copied))
-}

@@ -8,11 +8,24 @@ ghost use Rattle.claim_map.specs.State.{covers as covers_id};
 ghost use Rattle.claim_map.specs.Verdict.{verdict_of, refusal_of, wrong_number as is_wrong_number, first_repeated, foreign as is_foreign, too_many_open as are_too_many_open, open_count, lease_naming, blocked_by, create_refusal as create_refused, destroy_refusal as destroy_refused, creates_refusal as creates_refused, destroys_refusal as destroys_refused};
 
 use crate::Leases;
-use crate::begun::{is_among, is_created};
+use cells_base::front;
 use claim_types::{
     ClaimKey, Create, Holding, LeaseId, OPEN_LEASES, OPERATIONS, Operations, Range, Refusal,
     Verdict,
 };
+
+fn is_created(creates: &[Create], key: &ClaimKey) -> bool
+    ensures { result ≡ list_any (λ c. key_eq c.key key.now) creates.now }
+{
+    creates.iter().any(|create| create.key == *key)
+}
+
+// Whether a key stands among these.
+fn is_among(keys: &[ClaimKey], key: &ClaimKey) -> bool
+    ensures { result ≡ list_any (λ k. key_eq k key.now) keys.now }
+{
+    keys.iter().any(|other| *other == *key)
+}
 
 fn number_of(ops: &Operations) -> usize
     ensures { result ≡ operation_count ops.now }
@@ -52,7 +65,7 @@ fn foreign(given: &[Range], cell: u16, creates: &[Create]) -> Option<Refusal>
 }
 
 fn too_many_open(leases: &Leases, cell: u16) -> Option<Refusal>
-    ensures { result ≡ are_too_many_open (open_count leases.now.begun cell) }
+    ensures { result ≡ are_too_many_open (open_count leases.now.open_leases cell) }
 {
     if OPEN_LEASES <= leases.open_of(cell) {
         return Some(Refusal::TooManyOpen);
@@ -61,32 +74,31 @@ fn too_many_open(leases: &Leases, cell: u16) -> Option<Refusal>
 }
 
 // An open lease that names the key of the operation in this place.
-fn blocked(leases: &Leases, key: &ClaimKey, index: u64) -> Option<Refusal>
-    ensures { result ≡ blocked_by (lease_naming leases.now.begun key.now) index }
+fn blocked(named: Option<LeaseId>, index: u64) -> Option<Refusal>
+    ensures { result ≡ blocked_by named index }
 {
-    match leases.naming(key) {
-        Some(lease) => Some(Refusal::Leased { index, lease }),
-        None => None,
-    }
+    named.map(|lease| Refusal::Leased { index, lease })
 }
 
 fn create_refusal(leases: &Leases, key: &ClaimKey, index: u64) -> Option<Refusal>
-    ensures { result ≡ create_refused (map.get leases.now.holder key.now) (lease_naming leases.now.begun key.now) index }
+    ensures { result ≡ create_refused (map.get leases.now.holder key.now) (lease_naming leases.now.open_leases key.now) index }
 {
-    match leases.holder(key) {
+    let state = leases.state(key);
+    match state.holder {
         Some(holding) => Some(Refusal::Owned {
             index,
             cell: holding.cell,
         }),
-        None => blocked(leases, key, index),
+        None => blocked(state.named, index),
     }
 }
 
 fn destroy_refusal(leases: &Leases, cell: u16, key: &ClaimKey, index: u64) -> Option<Refusal>
-    ensures { result ≡ destroy_refused cell (map.get leases.now.holder key.now) (lease_naming leases.now.begun key.now) index }
+    ensures { result ≡ destroy_refused cell (map.get leases.now.holder key.now) (lease_naming leases.now.open_leases key.now) index }
 {
-    match leases.holder(key) {
-        Some(holding) if holding.cell == cell => blocked(leases, key, index),
+    let state = leases.state(key);
+    match state.holder {
+        Some(holding) if holding.cell == cell => blocked(state.named, index),
         _ => Some(Refusal::NotOwned { index }),
     }
 }
@@ -135,13 +147,6 @@ fn key_at(ops: &Operations, index: usize) -> &ClaimKey
         return &creates[index].key;
     }
     &ops.destroys.as_slice()[index - creates.len()]
-}
-
-fn front<T>(items: &[T], at: usize) -> &[T]
-    requires { at ≤ length items.now }
-    ensures { result.now ≡ take at items.now }
-{
-    &items[..at]
 }
 
 // Whether an operation before this place has a key.

@@ -15,21 +15,26 @@
 //! [`Leases::judge`] is that of `claim_map`'s `specs/Verdict`; `begin`, `commit` and `rollback` leave
 //! the state that its `specs/Step` says, where `specs/Outcomes` says when; the pages are those of its
 //! `specs/Pages`. `begin` takes the room that its lease will need, so `commit` takes no memory, nor does
-//! `rollback` of a lease that was begun. After want of memory the state is as it was.
+//! `rollback` of a lease that was begun. After want of memory the state is as it was. It stands on
+//! `key_table`, `claim_map` and `claim_types`; its caller keeps the ranges by which it judges.
 //!
-//! Keys and leases are kept in order, so a look-up halves its way. Which open lease names a key is
-//! found by looking at each.
+//! What is known of a key, its holder and the open lease that names it, stands in a hash map
+//! (`key_table`), so a begin looks at no other lease. Leases stand in ordered maps, and how many are
+//! open is kept for each cell. The places of claims stand in order of cell, bucket, row and key, so
+//! that a page costs its items; a begin adds those of its creates, and a page passes over places
+//! whose key is not held there (`specs/Kept` says what the parts know of each other).
 #![tactic(auto)]
 
-mod begun;
-mod done;
 mod faults;
-mod held;
+mod holders;
 mod items;
 mod judge;
+mod lease_map;
 mod leases;
+mod open_numbers;
 mod pages;
-mod room;
+mod parts;
+mod rows;
 #[cfg(test)]
 mod tests;
 
@@ -37,3 +42,4 @@ pub use claim_types::{ClaimItem, ClaimItems, ClaimPage, LeaseIds, LeasePage, Ref
 pub use faults::{BeginFault, CommitFault, RollbackFault};
 pub use items::{BegunItem, BegunItems, DoneItem, DoneItems, HeldItem, HeldItems, LeaseParts};
 pub use leases::Leases;
+pub use rows::RowKey;

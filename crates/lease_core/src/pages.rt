@@ -1,19 +1,18 @@
-ghost use Rattle.std.specs.Prelude.{◌≡◌, ◌+◌, ◌≤◌, IsTrue, IfOk, OnOk, length, map as each, filter, take, nat_eq, nat_lt, ◌&&◌, vec_len};
-ghost use Rattle.std.specs.List.Sorted.{IsSearchInRange};
-ghost use Rattle.std.specs.FinMap.{FinMap, values, from_entries};
-ghost use Rattle.std.specs.FinMap.Entries.{put};
-ghost use Rattle.claim_types.specs.Order.{lease_cmp};
+ghost use Rattle.std.specs.Prelude.{◌≡◌, [], IfOk, length, max, map as each, filter, take, nat_eq, nat_lt, ◌&&◌};
+ghost use Rattle.std.specs.FinMap as map;
+ghost use Rattle.std.specs.FinMap.{values, from_entries};
 ghost use Rattle.claim_map.specs.Pages.{is_above as stands_behind, place_cmp, placed, is_listed};
-ghost use Rattle.lease_core.specs.Search.{IsFound};
-ghost use Rattle.lease_core.specs.Kept.{held_entry, held_entries, AreHeld, claim_entries, AreClaims};
+ghost use Rattle.lease_core.specs.Kept.{HasHeld};
+ghost use Rattle.lease_core.specs.Gathered.{claim_at as claim_there, is_beyond as stands_beyond, is_place as is_its_place};
 
-use crate::held::key_order;
-use crate::{BegunItem, HeldItem};
+use crate::lease_map::LeaseMap;
+use crate::rows::{RowKey, Rows};
 use claim_types::{
-    Bucket, CLAIMS_A_PAGE, ClaimItem, ClaimKey, Copied, Items, LEASES_A_PAGE, LeaseId, NoMemory,
+    Bucket, CLAIMS_A_PAGE, ClaimItem, ClaimKey, Copied, Holding, Items, LEASES_A_PAGE, LeaseId,
+    NoMemory, Operations, Text,
 };
+use key_table::Keys;
 use std::alloc::Global;
-use std::cmp::Ordering;
 
 /// How many leases are sought for a page: one more, so that it can say whether the list goes on.
 pub const LEASES_SOUGHT: usize = LEASES_A_PAGE as usize + 1;
@@ -52,20 +51,20 @@ fn is_sought(lease: LeaseId, cell: u16, last: Option<LeaseId>) -> bool
 /// The first open leases of a cell behind this one, at most so many.
 pub fn leases_above(
     alloc: Global,
-    begun: &[BegunItem],
+    open_leases: &LeaseMap<Operations>,
     cell: u16,
     last: Option<LeaseId>,
     most: usize,
 ) -> Result<Vec<LeaseId>, NoMemory>
-    ensures { IfOk result (λ leases. leases.items ≡ take most (filter (λ l. nat_eq l.cell cell && stands_behind last l) (each (λ it. it.lease) begun.now))) }
+    ensures { IfOk result (λ leases. leases.items ≡ take most (filter (λ l. nat_eq l.cell cell && stands_behind last l) (map.keys open_leases.now))) }
 {
     let mut leases = Vec::new(alloc);
-    for item in begun {
+    for lease in open_leases.entries.keys() {
         if leases.len() >= most {
             return Ok(leases);
         }
-        if is_sought(item.lease, cell, last) {
-            leases.push(item.lease)?;
+        if is_sought(*lease, cell, last) {
+            leases.push(*lease)?;
         }
     }
     Ok(leases)
@@ -82,86 +81,100 @@ pub struct Listing {
     pub after: u64,
 }
 
-fn lists(listing: &Listing, item: &HeldItem) -> bool
-    ensures { result ≡ is_listed listing.now.cell listing.now.bucket listing.now.first listing.now.last listing.now.after (held_entry item.now) }
+fn lists(listing: &Listing, key: &ClaimKey, holding: &Holding) -> bool
+    ensures { result ≡ is_listed listing.now.cell listing.now.bucket listing.now.first listing.now.last listing.now.after (key.now, holding.now) }
 {
-    let row = item.holding.origin.row;
-    item.holding.cell == listing.cell
-        && item.key.bucket.number() == listing.bucket.number()
+    let row = holding.origin.row;
+    holding.cell == listing.cell
+        && key.bucket.number() == listing.bucket.number()
         && listing.first <= row
         && row <= listing.last
         && listing.after < row
 }
 
-// A claim against the place of a row and a key.
-fn place_order(claim: &ClaimItem, row: u64, key: &ClaimKey) -> Ordering
-    ensures { result ≡ place_cmp (claim.now.origin.row, claim.now.key) (row, key.now) }
+// Whether this is the place of its key, where the key is held so.
+fn is_place(place: &RowKey, holding: &Holding) -> bool
+    ensures { result ≡ is_its_place place.now holding.now }
 {
-    claim
-        .origin
-        .row
-        .cmp(&row)
-        .then_with(|| key_order(&claim.key, key.bucket, key.value.as_slice()))
+    place.cell == holding.cell
+        && place.bucket.number() == place.key.bucket.number()
+        && place.row == holding.origin.row
 }
 
-// Where a claim stands, or would go.
-fn place_among(claims: &[ClaimItem], row: u64, key: &ClaimKey) -> Result<usize, usize>
-    requires { AreClaims claims.now }
-    ensures range { IsSearchInRange result (length claims.now) }
-    ensures found { IsFound place_cmp (row, key.now) (claim_entries claims.now) result }
+// Whether a place stands behind all that a page may list.
+fn is_beyond(listing: &Listing, place: &RowKey) -> bool
+    ensures { result ≡ stands_beyond listing.now.cell listing.now.bucket listing.now.last place.now }
 {
-    claims.binary_search_by(|claim| place_order(claim, row, key))
+    place
+        .cell
+        .cmp(&listing.cell)
+        .then_with(|| place.bucket.number().cmp(&listing.bucket.number()))
+        .then_with(|| place.row.cmp(&listing.last))
+        .is_gt()
 }
 
-fn claim(alloc: Global, item: &HeldItem) -> Result<ClaimItem, NoMemory>
-    ensures { IfOk result (λ claim. (placed (held_entry item.now)).1 ≡ claim) }
-{
-    Ok(ClaimItem {
-        key: item.key.copy(alloc)?,
-        subject: item.holding.subject,
-        origin: item.holding.origin,
-    })
-}
-
-// Puts a claim among the first ones, of which there are at most so many.
-fn put_claim(
+// The claim of a place, if its key is held there and the page lists it.
+fn claim_at(
     alloc: Global,
-    claims: &mut Vec<ClaimItem>,
-    item: &HeldItem,
-    most: usize,
-) -> Result<(), NoMemory>
-    requires claims { AreClaims claims.old.items }
-    requires few { length claims.old.items ≤ most }
-    ensures claims { OnOk result (AreClaims claims.new.items) }
-    ensures few { OnOk result (length claims.new.items ≤ most) }
-    ensures after { OnOk result (claim_entries claims.new.items ≡ take most (put place_cmp (placed (held_entry item.now)).0 (placed (held_entry item.now)).1 (claim_entries claims.old.items))) }
+    keys: &Keys,
+    listing: &Listing,
+    place: &RowKey,
+) -> Result<Option<ClaimItem>, NoMemory>
+    ensures { IfOk result (λ claim. claim ≡ claim_there keys.now.holder (is_listed listing.now.cell listing.now.bucket listing.now.first listing.now.last listing.now.after) place.now) }
 {
-    match place_among(claims, item.holding.origin.row, &item.key) {
-        Ok(at) => claims[at] = claim(alloc, item)?,
-        Err(at) => {
-            if at < most {
-                claims.insert(at, claim(alloc, item)?)?;
-                claims.truncate(most);
-            }
-        }
+    let key = &place.key;
+    let Some(holding) = keys.state(key.bucket, key.value.as_slice()).holder else {
+        return Ok(None);
+    };
+    if !is_place(place, &holding) {
+        return Ok(None);
     }
-    Ok(())
+    if !lists(listing, key, &holding) {
+        return Ok(None);
+    }
+    Ok(Some(ClaimItem {
+        key: key.copy(alloc)?,
+        subject: holding.subject,
+        origin: holding.origin,
+    }))
+}
+
+// A place that none of the page stands before.
+fn first_place(alloc: Global, listing: &Listing) -> RowKey
+    ensures { result ≡ record { cell = listing.now.cell; bucket = listing.now.bucket; row = max listing.now.first listing.now.after; key = record { bucket = Bucket.OrganizationPath; value = [] } } }
+{
+    RowKey {
+        cell: listing.cell,
+        bucket: listing.bucket,
+        row: listing.first.max(listing.after),
+        key: ClaimKey {
+            bucket: Bucket::OrganizationPath,
+            value: Text::new(alloc),
+        },
+    }
 }
 
 /// The first claims that a page lists, in order of row and then of key, at most so many.
 pub fn first_claims(
     alloc: Global,
-    held: &[HeldItem],
+    keys: &Keys,
+    rows: &Rows,
     listing: &Listing,
     most: usize,
 ) -> Result<Vec<ClaimItem>, NoMemory>
-    requires { AreHeld held.now }
-    ensures { IfOk result (λ claims. claims.items ≡ take most (values (from_entries {R = place_cmp} (each placed (filter (is_listed listing.now.cell listing.now.bucket listing.now.first listing.now.last listing.now.after) (held_entries held.now)))))) }
+    requires { HasHeld rows.now keys.now.holder }
+    ensures { IfOk result (λ claims. claims.items ≡ take most (values (from_entries {R = place_cmp} (each placed (filter (is_listed listing.now.cell listing.now.bucket listing.now.first listing.now.last listing.now.after) (map.entries keys.now.holder)))))) }
 {
     let mut claims = Vec::new(alloc);
-    for item in held {
-        if lists(listing, item) {
-            put_claim(alloc, &mut claims, item, most)?;
+    for place in rows.places.range(first_place(alloc, listing)..) {
+        if claims.len() >= most {
+            return Ok(claims);
+        }
+        if is_beyond(listing, place) {
+            return Ok(claims);
+        }
+        if let Some(claim) = claim_at(alloc, keys, listing, place)? {
+            claims.push(claim)?;
         }
     }
     Ok(claims)

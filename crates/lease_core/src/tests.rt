@@ -250,3 +250,57 @@ fn is_made_of_its_parts(rt: HostRuntime) -> Result<(), Fail> {
     assert_eq!(rt; leases.settle(lease(1), How::RolledBack), Ok(false));
     Ok(())
 }
+
+fn group(row: u64) -> Holding {
+    Holding {
+        cell: 1,
+        subject: Subject {
+            kind: Kind::Group,
+            id: row,
+        },
+        origin: Origin {
+            table: Kind::Group,
+            row,
+        },
+    }
+}
+
+// The route of `r` and six digits.
+fn numbered(alloc: Global, n: u64) -> Result<String, NoMemory> {
+    Ok(format!(in alloc; "r{n:06}")?)
+}
+
+// A state in which the routes from 1 to this number are held, each by its own row.
+fn holding(alloc: Global, number: u64) -> Result<Leases, Fail> {
+    let mut leases = Leases::new(alloc);
+    for n in 1..number + 1 {
+        let route = numbered(alloc, n)?;
+        leases.hold(key(alloc, route.as_bytes())?, group(n))?;
+    }
+    Ok(leases)
+}
+
+#[test]
+fn lists_a_page_and_then_the_rest(rt: HostRuntime) -> Result<(), Fail> {
+    let alloc = rt.alloc();
+    let leases = holding(alloc, 65)?;
+    let first = leases.claims_in(alloc, 1, Bucket::Route, 1, 65, 0)?;
+    assert_eq!(rt; first.items.len(), 64);
+    assert!(rt; first.more);
+    let rest = leases.claims_in(alloc, 1, Bucket::Route, 1, 65, 64)?;
+    assert_eq!(rt; rest.items.len(), 1);
+    assert!(rt; !rest.more);
+    Ok(())
+}
+
+#[test]
+fn finds_each_of_many_routes(rt: HostRuntime) -> Result<(), Fail> {
+    let alloc = rt.alloc();
+    let leases = holding(alloc, 200_000)?;
+    for n in 1..200_001 {
+        let route = numbered(alloc, n)?;
+        let holder = leases.holder_of(Bucket::Route, route.as_bytes());
+        assert_eq!(rt; holder, Some(group(n)));
+    }
+    Ok(())
+}

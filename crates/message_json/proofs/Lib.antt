@@ -1,10 +1,10 @@
 mod Absent
 pub mod Each
 mod Utf8
-pub mod Keys
 pub mod Parts
 pub mod Written
 pub mod MemberLaws
+pub mod QuestionLaws
 pub mod RequestLaws
 pub mod ReadBack
 pub mod Writable

@@ -7,11 +7,11 @@ use Rattle.serde_json.specs.Read.{read, max_depth}
 use Rattle.serde_json.specs.Written.{compact_text, has_float}
 use Rattle.claim_types.specs.declared.message.Request.{Request}
 use Rattle.claim_types.specs.declared.message.Reply.{Reply}
-use Rattle.message_json.specs.Bounds.{IsRequest, IsReply}
-use Rattle.message_json.specs.Requests.{request_of, of_read}
-use Rattle.message_json.specs.ReplyReading.{reply_of, of_read as reply_of_read}
-use Rattle.message_json.specs.Replies.{reply_data}
-use Rattle.message_json.specs.RequestTexts.{request_data}
+use Rattle.claim_types.specs.MessageBounds.{IsRequest, IsReply}
+use Rattle.message_json.specs.RequestReader.{request_of, of_read}
+use Rattle.message_json.specs.ReplyReader.{reply_of, of_read as reply_of_read}
+use Rattle.message_json.specs.ReplyWriter.{reply_data}
+use Rattle.message_json.specs.RequestWriter.{request_data}
 use Rattle.message_json.proofs.RequestLaws.{request_back}
 use Rattle.message_json.proofs.ReplyLaws.{reply_back}
 use Rattle.message_json.proofs.Utf8.{read_of-text}

@@ -1,17 +1,22 @@
 -- A reply that was written is read again as the same.
-use Rattle.std.proofs.Common.{◌≡◌, ℕ, List, map, Ok, refl, sym, ap, ◌∙◌, arith}
+use Rattle.std.proofs.Common.{◌≡◌, ℕ, Bool, List, map, Option, Some, None, Ok, refl, sym, ap, ◌∙◌, arith}
 use Rattle.std.specs.Prelude.{codes}
 use Rattle.std.specs.List.{All}
 use Rattle.serde_json.specs.View.{items_of}
-use Rattle.claim_types.specs.Bounds.{IsCell}
+use Rattle.claim_types.specs.Bounds.{IsCell, IsClaim, IsRangeNumber, IsText}
+use Rattle.claim_types.specs.MessageBounds.{AreRows, IsDenial, IsBegunResult, IsRangedResult, IsReply, IsQuestion, IsClass, IsFound}
 use Rattle.claim_types.specs.Leases.{IsLease}
 use Rattle.claim_types.specs.declared.key.Bucket.{Bucket}
 use Rattle.claim_types.specs.declared.lease.LeaseId.{LeaseId}
 use Rattle.claim_types.specs.declared.lease.How.TheVariants as how
-use Rattle.claim_types.specs.declared.limits.TheConstants.{GREATEST_IDENTIFIER, GREATEST_CELL}
+use Rattle.claim_types.specs.declared.limits.TheConstants.{GREATEST_IDENTIFIER, GREATEST_CELL, GREATEST_NUMBER}
 use Rattle.claim_types.specs.declared.page.ClaimItem.{ClaimItem}
 use Rattle.claim_types.specs.declared.page.ClaimPage.{ClaimPage}
 use Rattle.claim_types.specs.declared.page.LeasePage.{LeasePage}
+use Rattle.claim_types.specs.declared.question.Question.{Question}
+use Rattle.claim_types.specs.declared.question.Question.TheVariants as question
+use Rattle.claim_types.specs.declared.question.Class.{Class}
+use Rattle.claim_types.specs.declared.question.Class.TheVariants as class
 use Rattle.claim_types.specs.declared.verdict.Denial.{Denial}
 use Rattle.claim_types.specs.declared.verdict.Denial.TheVariants.{Settled, OtherOperations, NoneOrTooMany, Twice, ForeignId, TooManyOpen, Owned, Leased, NotOwned}
 use Rattle.claim_types.specs.declared.message.BegunResult.{BegunResult}
@@ -23,14 +28,14 @@ use Rattle.claim_types.specs.declared.message.RolledBackResult.TheVariants as ro
 use Rattle.claim_types.specs.declared.message.RangedResult.{RangedResult}
 use Rattle.claim_types.specs.declared.message.RangedResult.TheVariants as ranged
 use Rattle.claim_types.specs.declared.message.Reply.{Reply}
-use Rattle.claim_types.specs.declared.message.Reply.TheVariants.{Begun, Committed, RolledBack, Leases, Ranged, Claims, NoCell}
+use Rattle.claim_types.specs.declared.message.Reply.TheVariants.{Begun, Committed, RolledBack, Leases, Ranged, Claims, Classified, Page, NoCell}
 use Rattle.message_json.specs.declared.member.Member.TheVariants as member
-use Rattle.message_json.specs.Bounds.{IsClaim, AreRows, IsRangeNumber, IsDenial, IsBegunResult, IsRangedResult, IsReply}
-use Rattle.message_json.specs.Reading.{greatest_number, text_member, lease_member, key_members, claim_members}
-use Rattle.message_json.specs.Replies.{denied_data, begun_data, lease_item, claim_item, reply_data}
-use Rattle.message_json.specs.ReplyReading.{how_member, keyed_denial_of, settled_of, count_of, twice_of, foreign_of, owned_of, leased_of, not_owned_of, denial_of, denied_of, begun_member, begun_of, committed_member, committed_of, rolled_back_member, rolled_back_of, lease_element, leases_member, leases_of, given_of, too_far_of, exhausted_of, ranged_member, ranged_of, claim_element, items_member, claims_of, no_cell_of, of_object, of_data}
+use Rattle.message_json.specs.Reading.{text_member, lease_member, key_members, claim_members}
+use Rattle.message_json.specs.ReplyWriter.{denied_data, begun_data, lease_item, claim_item, reply_data}
+use Rattle.message_json.specs.ReplyReader.{how_member, keyed_denial_of, settled_of, count_of, twice_of, foreign_of, owned_of, leased_of, not_owned_of, denial_of, denied_of, begun_member, begun_of, committed_member, committed_of, rolled_back_member, rolled_back_of, lease_element, leases_member, leases_of, given_of, too_far_of, exhausted_of, ranged_member, ranged_of, claim_element, items_member, claims_of, classified_of, page_of, no_cell_of, of_object, of_data}
 use Rattle.message_json.specs.Texts.{lease_text}
 use Rattle.message_json.proofs.MemberLaws.{lease_again, text_back, number_back, flag_back, array_back, lease_back, bucket_back, subject_kind_back, table_back, key_back}
+use Rattle.message_json.proofs.QuestionLaws.{short_back, first_back, cell_back, session_back, claim_back, path_back, answer_back, not_found_back, unknown_back, found_back}
 use Rattle.message_json.proofs.RequestLaws.{each_back}
 
 -- the words of the denials
@@ -51,11 +56,11 @@ module _ (lease : List ℕ) where
   denial_back (Settled how.Committed) is = rw (text_back member.How (denied_data lease (Settled how.Committed)) (codes "committed") refl) refl
   denial_back (Settled how.RolledBack) is = rw (text_back member.How (denied_data lease (Settled how.RolledBack)) (codes "rolled_back") refl) refl
   denial_back OtherOperations is = refl
-  denial_back (NoneOrTooMany n) is = rw (number_back member.N 0 greatest_number (denied_data lease (NoneOrTooMany n)) n (omega arith) is refl) refl
+  denial_back (NoneOrTooMany n) is = rw (number_back member.N 0 GREATEST_NUMBER (denied_data lease (NoneOrTooMany n)) n (omega arith) is refl) refl
   denial_back (Twice key) is =
       let body = denied_data lease (Twice key) in
       rw (bucket_back body key.bucket refl, key_back body key is refl) refl
-  denial_back (ForeignId id) is = rw (number_back member.Id 0 greatest_number (denied_data lease (ForeignId id)) id (omega arith) is refl) refl
+  denial_back (ForeignId id) is = rw (number_back member.Id 0 GREATEST_NUMBER (denied_data lease (ForeignId id)) id (omega arith) is refl) refl
   denial_back TooManyOpen is = refl
   denial_back (Owned key cell) is =
       let body = denied_data lease (Owned key cell) in
@@ -142,27 +147,27 @@ ranged_back cell n (ranged.Good low high) is_cell is_number is =
     let body = reply_data (Ranged cell n (ranged.Good low high)) in
     rw (
       number_back member.Cell 1 GREATEST_CELL body cell is_cell.0 is_cell.1 refl,
-      number_back member.Number 1 greatest_number body n is_number.0 is_number.1 refl,
+      number_back member.Number 1 GREATEST_NUMBER body n is_number.0 is_number.1 refl,
       text_back member.Result body (codes "ok") refl,
       number_back member.Low 1 GREATEST_IDENTIFIER body low is.0 (omega (arith, is.1, is.2)) refl,
       number_back member.High low GREATEST_IDENTIFIER body high is.1 is.2 refl,
     ) refl
 ranged_back cell n ranged.UnknownCell is_cell is_number is =
     let body = reply_data (Ranged cell n ranged.UnknownCell) in
-    rw (number_back member.Cell 1 GREATEST_CELL body cell is_cell.0 is_cell.1 refl, number_back member.Number 1 greatest_number body n is_number.0 is_number.1 refl, text_back member.Result body (codes "unknown_cell") refl) refl
+    rw (number_back member.Cell 1 GREATEST_CELL body cell is_cell.0 is_cell.1 refl, number_back member.Number 1 GREATEST_NUMBER body n is_number.0 is_number.1 refl, text_back member.Result body (codes "unknown_cell") refl) refl
 ranged_back cell n (ranged.TooFar next) is_cell is_number is =
     let body = reply_data (Ranged cell n (ranged.TooFar next)) in
     rw (
       number_back member.Cell 1 GREATEST_CELL body cell is_cell.0 is_cell.1 refl,
-      number_back member.Number 1 greatest_number body n is_number.0 is_number.1 refl,
+      number_back member.Number 1 GREATEST_NUMBER body n is_number.0 is_number.1 refl,
       text_back member.Result body (codes "too_far") refl,
-      number_back member.Next 1 greatest_number body next is.0 is.1 refl,
+      number_back member.Next 1 GREATEST_NUMBER body next is.0 is.1 refl,
     ) refl
 ranged_back cell n (ranged.Exhausted last) is_cell is_number is =
     let body = reply_data (Ranged cell n (ranged.Exhausted last)) in
     rw (
       number_back member.Cell 1 GREATEST_CELL body cell is_cell.0 is_cell.1 refl,
-      number_back member.Number 1 greatest_number body n is_number.0 is_number.1 refl,
+      number_back member.Number 1 GREATEST_NUMBER body n is_number.0 is_number.1 refl,
       text_back member.Result body (codes "exhausted") refl,
       number_back member.Last 0 GREATEST_IDENTIFIER body last (omega arith) is refl,
     ) refl
@@ -174,16 +179,16 @@ claim_members_back claim is =
     let body = claim_item claim in
     rw (
       key_back body claim.key is.key refl,
-      subject_kind_back body claim.subject.kind is.about.kind refl,
-      number_back member.SubjectId 1 GREATEST_IDENTIFIER body claim.subject.id is.about.id.0 is.about.id.1 refl,
+      subject_kind_back body claim.subject.kind is.subject.kind refl,
+      number_back member.SubjectId 1 GREATEST_IDENTIFIER body claim.subject.id is.subject.id.0 is.subject.id.1 refl,
       table_back body claim.origin.table refl,
-      number_back member.Row 1 GREATEST_IDENTIFIER body claim.origin.row is.about.row.0 is.about.row.1 refl,
+      number_back member.Row 1 GREATEST_IDENTIFIER body claim.origin.row is.origin.row.0 is.origin.row.1 refl,
     ) refl
 
 claim_element_back : (bucket : Bucket) (claim : ClaimItem) → IsClaim bucket claim → claim_element bucket (claim_item claim) ≡ Ok claim
 unfolding claim_element
 claim_element_back bucket claim is =
-    ap (λ (b : Bucket). claim_members b (claim_item claim)) (sym is.bucket_is) ∙ claim_members_back claim (record { key = is.key; bucket_is = refl; about = is.about })
+    ap (λ (b : Bucket). claim_members b (claim_item claim)) (sym is.bucket_is) ∙ claim_members_back claim (record { key = is.key; bucket_is = refl; subject = is.subject; origin = is.origin })
 
 claims_back : (cell : ℕ) (bucket : Bucket) (first last after : ℕ) (page : ClaimPage) → IsCell cell → AreRows first last after → All (IsClaim bucket) page.items → claims_of (reply_data (Claims cell bucket first last after page)) ≡ Ok (Claims cell bucket first last after page)
 unfolding claims_of items_member
@@ -192,8 +197,8 @@ claims_back cell bucket first last after page is_cell rows are =
     rw (
       number_back member.Cell 1 GREATEST_CELL body cell is_cell.0 is_cell.1 refl,
       bucket_back body bucket refl,
-      number_back member.First 0 greatest_number body first (omega arith) (omega (arith, rows.in_order, rows.last_most)) refl,
-      number_back member.Last first greatest_number body last rows.in_order rows.last_most refl,
+      number_back member.First 0 GREATEST_NUMBER body first (omega arith) (omega (arith, rows.in_order, rows.last_most)) refl,
+      number_back member.Last first GREATEST_NUMBER body last rows.in_order rows.last_most refl,
       number_back member.After 0 GREATEST_IDENTIFIER body after (omega arith) rows.after_most refl,
       array_back member.Items body (items_of (map claim_item page.items)) refl,
       each_back (IsClaim bucket) (claim_element bucket) claim_item (claim_element_back bucket) page.items are,
@@ -223,6 +228,31 @@ ranged_beside cell n ranged.UnknownCell = text_back member.Reply (reply_data (Ra
 ranged_beside cell n (ranged.TooFar next) = text_back member.Reply (reply_data (Ranged cell n (ranged.TooFar next))) (codes "ranged") refl
 ranged_beside cell n (ranged.Exhausted last) = text_back member.Reply (reply_data (Ranged cell n (ranged.Exhausted last))) (codes "ranged") refl
 
+-- the answer to a question, whichever it was
+classified_back : (asked : Question) (answered : Class) → IsQuestion asked × IsClass answered → of_data (reply_data (Classified asked answered)) ≡ Ok (Classified asked answered)
+unfolding of_object classified_of
+classified_back question.First (class.Cell answer) is = let body = reply_data (Classified question.First (class.Cell answer)) in rw (text_back member.Reply body (codes "classified") refl, first_back body refl, answer_back body answer is.1 refl refl) refl
+classified_back question.First class.NotFound is = let body = reply_data (Classified question.First class.NotFound) in rw (text_back member.Reply body (codes "classified") refl, first_back body refl, not_found_back body refl) refl
+classified_back question.First class.UnknownCell is = let body = reply_data (Classified question.First class.UnknownCell) in rw (text_back member.Reply body (codes "classified") refl, first_back body refl, unknown_back body refl) refl
+classified_back (question.Cell id) (class.Cell answer) is = let body = reply_data (Classified (question.Cell id) (class.Cell answer)) in rw (text_back member.Reply body (codes "classified") refl, cell_back body id is.0 refl refl, answer_back body answer is.1 refl refl) refl
+classified_back (question.Cell id) class.NotFound is = let body = reply_data (Classified (question.Cell id) class.NotFound) in rw (text_back member.Reply body (codes "classified") refl, cell_back body id is.0 refl refl, not_found_back body refl) refl
+classified_back (question.Cell id) class.UnknownCell is = let body = reply_data (Classified (question.Cell id) class.UnknownCell) in rw (text_back member.Reply body (codes "classified") refl, cell_back body id is.0 refl refl, unknown_back body refl) refl
+classified_back (question.Session text) (class.Cell answer) is = let body = reply_data (Classified (question.Session text) (class.Cell answer)) in rw (text_back member.Reply body (codes "classified") refl, session_back body text is.0 refl refl, answer_back body answer is.1 refl refl) refl
+classified_back (question.Session text) class.NotFound is = let body = reply_data (Classified (question.Session text) class.NotFound) in rw (text_back member.Reply body (codes "classified") refl, session_back body text is.0 refl refl, not_found_back body refl) refl
+classified_back (question.Session text) class.UnknownCell is = let body = reply_data (Classified (question.Session text) class.UnknownCell) in rw (text_back member.Reply body (codes "classified") refl, session_back body text is.0 refl refl, unknown_back body refl) refl
+classified_back (question.Claim key) (class.Cell answer) is = let body = reply_data (Classified (question.Claim key) (class.Cell answer)) in rw (text_back member.Reply body (codes "classified") refl, claim_back body key is.0 refl refl refl, answer_back body answer is.1 refl refl) refl
+classified_back (question.Claim key) class.NotFound is = let body = reply_data (Classified (question.Claim key) class.NotFound) in rw (text_back member.Reply body (codes "classified") refl, claim_back body key is.0 refl refl refl, not_found_back body refl) refl
+classified_back (question.Claim key) class.UnknownCell is = let body = reply_data (Classified (question.Claim key) class.UnknownCell) in rw (text_back member.Reply body (codes "classified") refl, claim_back body key is.0 refl refl refl, unknown_back body refl) refl
+classified_back (question.Path text) (class.Cell answer) is = let body = reply_data (Classified (question.Path text) (class.Cell answer)) in rw (text_back member.Reply body (codes "classified") refl, path_back body text is.0 refl refl, answer_back body answer is.1 refl refl) refl
+classified_back (question.Path text) class.NotFound is = let body = reply_data (Classified (question.Path text) class.NotFound) in rw (text_back member.Reply body (codes "classified") refl, path_back body text is.0 refl refl, not_found_back body refl) refl
+classified_back (question.Path text) class.UnknownCell is = let body = reply_data (Classified (question.Path text) class.UnknownCell) in rw (text_back member.Reply body (codes "classified") refl, path_back body text is.0 refl refl, unknown_back body refl) refl
+
+page_back : (cell : ℕ) (path : List ℕ) (named : Bool) (found : Option ℕ) → IsCell cell → IsText path → IsFound found → page_of (reply_data (Page cell path named found)) ≡ Ok (Page cell path named found)
+unfolding page_of
+page_back cell path named found is_cell is_text is =
+    let body = reply_data (Page cell path named found) in
+    rw (number_back member.Cell 1 GREATEST_CELL body cell is_cell.0 is_cell.1 refl, short_back member.Path body path is_text refl, flag_back member.Named body named refl, found_back body found is refl) refl
+
 -- the word of the reply comes first
 pub reply_back : (reply : Reply) → IsReply reply → of_data (reply_data reply) ≡ Ok reply
 unfolding of_object
@@ -244,4 +274,6 @@ reply_back (Ranged cell n ranged.UnknownCell) is = rw (ranged_beside cell n rang
 reply_back (Ranged cell n (ranged.TooFar next)) is = rw (ranged_beside cell n (ranged.TooFar next)) (ranged_back cell n (ranged.TooFar next) is.0 is.1 is.2)
 reply_back (Ranged cell n (ranged.Exhausted last)) is = rw (ranged_beside cell n (ranged.Exhausted last)) (ranged_back cell n (ranged.Exhausted last) is.0 is.1 is.2)
 reply_back (Claims cell bucket first last after page) is = rw (text_back member.Reply (reply_data (Claims cell bucket first last after page)) (codes "claims") refl) (claims_back cell bucket first last after page is.0 is.1 is.2)
+reply_back (Classified asked answered) is = classified_back asked answered is
+reply_back (Page cell path named found) is = rw (text_back member.Reply (reply_data (Page cell path named found)) (codes "page") refl) (page_back cell path named found is.0 is.1 is.2)
 reply_back (NoCell cell) is = rw (text_back member.Reply (reply_data (NoCell cell)) (codes "no_cell") refl) (no_cell_back cell is)

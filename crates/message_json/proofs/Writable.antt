@@ -3,22 +3,32 @@ use Rattle.std.proofs.Common.{Some, None, Result, Ok, Err, map}
 use Rattle.std.specs.Prelude.{IfOk}
 use Rattle.std.proofs.lemmas.List.Elements.{All-append, All-map, All-weaker}
 use Rattle.claim_types.proofs.KeyText.{IsUtf8-key_of}
-use Rattle.claim_types.specs.Writable.{IsWritableKey, IsWritableDenial, IsWritableResult, IsWritableRequest, IsWritableReply}
+use Rattle.claim_types.specs.Writable.{IsWritableKey, IsWritableDenial, IsWritableQuestion, IsWritableResult, IsWritableRequest, IsWritableReply}
 use Rattle.claim_types.specs.declared.key.ClaimKey.{ClaimKey}
 use Rattle.claim_types.specs.declared.operations.Create.{Create}
 use Rattle.claim_types.specs.declared.page.ClaimItem.{ClaimItem}
+use Rattle.claim_types.specs.declared.question.Question.{Question}
+use Rattle.claim_types.specs.declared.question.Question.TheVariants as question
 use Rattle.claim_types.specs.declared.verdict.Denial.{Denial}
 use Rattle.claim_types.specs.declared.verdict.Denial.TheVariants.{Settled, OtherOperations, NoneOrTooMany, Twice, ForeignId, TooManyOpen, Owned, Leased, NotOwned}
 use Rattle.claim_types.specs.declared.message.BegunResult.{BegunResult}
 use Rattle.claim_types.specs.declared.message.BegunResult.TheVariants.{Good, Denied}
 use Rattle.claim_types.specs.declared.message.Request.{Request}
-use Rattle.claim_types.specs.declared.message.Request.TheVariants.{Begin, Commit, Rollback, List as ListRequest, Range, Claims}
+use Rattle.claim_types.specs.declared.message.Request.TheVariants.{Begin, Commit, Rollback, List as ListRequest, Range, Claims, Classify, Page}
 use Rattle.claim_types.specs.declared.message.Reply.{Reply}
-use Rattle.claim_types.specs.declared.message.Reply.TheVariants.{Begun, Committed, RolledBack, Leases, Ranged, Claims as ClaimsReply, NoCell}
-use Rattle.message_json.specs.Bounds.{IsKey, IsCreate, IsClaim, IsDenial, IsBegunResult, IsRequest, IsReply}
+use Rattle.claim_types.specs.declared.message.Reply.TheVariants.{Begun, Committed, RolledBack, Leases, Ranged, Claims as ClaimsReply, Classified, Page as PageReply, NoCell}
+use Rattle.claim_types.specs.Bounds.{IsKey, IsCreate, IsClaim}
+use Rattle.claim_types.specs.MessageBounds.{IsDenial, IsBegunResult, IsRequest, IsReply, IsQuestion}
 
 key_writable : (key : ClaimKey) → IsKey key → IsWritableKey key
 key_writable key is = record { text = IsUtf8-key_of key.bucket key.value key is.unchanged }
+
+question_writable : (asked : Question) → IsQuestion asked → IsWritableQuestion asked
+question_writable question.First is = tt
+question_writable (question.Cell id) is = tt
+question_writable (question.Session text) is = is.utf8
+question_writable (question.Claim key) is = key_writable key is
+question_writable (question.Path text) is = is.utf8
 
 pub request_writable : (request : Request) → IsRequest request → IsWritableRequest request
 request_writable (Begin lease ops) is =
@@ -32,6 +42,8 @@ request_writable (ListRequest cell None) is = tt
 request_writable (ListRequest cell (Some after)) is = is.1
 request_writable (Range cell n) is = tt
 request_writable (Claims cell bucket first last after) is = tt
+request_writable (Classify asked) is = question_writable asked is
+request_writable (Page cell path named) is = is.1.utf8
 
 denial_writable : (denial : Denial) → IsDenial denial → IsWritableDenial denial
 denial_writable (Settled how) is = tt
@@ -56,6 +68,8 @@ reply_writable (Leases cell page) is = is.1
 reply_writable (Ranged cell n result) is = tt
 reply_writable (ClaimsReply cell bucket first last after page) is =
     All-weaker (λ (claim : ClaimItem). IsClaim bucket claim) (λ (claim : ClaimItem). IsWritableKey claim.key) (λ claim one. key_writable claim.key one.key) page.items is.2
+reply_writable (Classified asked class) is = question_writable asked is.0
+reply_writable (PageReply cell path named found) is = is.1.utf8
 reply_writable (NoCell cell) is = tt
 
 -- the same of what a reader gives

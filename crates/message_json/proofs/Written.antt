@@ -1,20 +1,24 @@
 -- What is written has no fraction, nests little, and so has a text that is read again as the same.
-use Rattle.std.proofs.Common.{◌≡◌, ℕ, ◌≤◌, false, List, [], ◌∷◌, map, Some, None, refl, arith}
-use Rattle.serde_json.specs.Data.{Data, depth, items_depth}
+use Rattle.std.proofs.Common.{◌≡◌, ℕ, ◌≤◌, false, List, [], ◌∷◌, map, Some, None, refl, ◌∙◌, arith}
+use Rattle.std.specs.Prelude.{codes}
+use Rattle.serde_json.specs.Data.{Data, Members, no_members, depth, items_depth, members_depth}
 use Rattle.serde_json.specs.View.{items_of}
 use Rattle.serde_json.specs.Read.{max_depth}
-use Rattle.serde_json.specs.Written.{has_float, items_have_float}
+use Rattle.serde_json.specs.Written.{has_float, items_have_float, members_have_float}
 use Rattle.claim_types.specs.declared.message.Request.{Request}
-use Rattle.claim_types.specs.declared.message.Request.TheVariants.{Begin, Commit, Rollback, List as ListRequest, Range, Claims}
+use Rattle.claim_types.specs.declared.message.Request.TheVariants.{Begin, Commit, Rollback, List as ListRequest, Range, Claims, Classify, Page}
+use Rattle.claim_types.specs.declared.question.Question.{Question}
+use Rattle.claim_types.specs.declared.question.Question.TheVariants as question
+use Rattle.claim_types.specs.declared.question.Class.TheVariants.{Cell as InCell, NotFound, UnknownCell}
 use Rattle.claim_types.specs.declared.verdict.Denial.{Denial}
 use Rattle.claim_types.specs.declared.verdict.Denial.TheVariants.{Settled, OtherOperations, NoneOrTooMany, Twice, ForeignId, TooManyOpen, Owned, Leased, NotOwned}
 use Rattle.claim_types.specs.declared.message.BegunResult.TheVariants.{Good, Denied}
 use Rattle.claim_types.specs.declared.message.RangedResult.TheVariants as ranged
 use Rattle.claim_types.specs.declared.message.Reply.{Reply}
-use Rattle.claim_types.specs.declared.message.Reply.TheVariants.{Begun, Committed, RolledBack, Leases, Ranged, Claims as ClaimsReply, NoCell}
-use Rattle.message_json.specs.Texts.{lease_text}
-use Rattle.message_json.specs.Replies.{denied_data, lease_item, claim_item, reply_data}
-use Rattle.message_json.specs.RequestTexts.{create_data, destroy_data, request_data}
+use Rattle.claim_types.specs.declared.message.Reply.TheVariants.{Begun, Committed, RolledBack, Leases, Ranged, Claims as ClaimsReply, Classified, Page as PageReply, NoCell}
+use Rattle.message_json.specs.Texts.{lease_text, text, question_front, question_back}
+use Rattle.message_json.specs.ReplyWriter.{denied_data, lease_item, claim_item, reply_data}
+use Rattle.message_json.specs.RequestWriter.{create_data, destroy_data, request_data}
 
 module _ {A : Type 0} (written : A → Data) where
   pub items_whole : ((x : A) → has_float (written x) ≡ false) → (xs : List A) → items_have_float (items_of (map written xs)) ≡ false
@@ -25,6 +29,35 @@ module _ {A : Type 0} (written : A → Data) where
   items_shallow each [] = omega arith
   items_shallow each (x ∷ xs) = omega (arith, each x, items_shallow each xs)
 
+-- the members of a question have no fraction and nest nothing
+front_whole : (asked : Question) (rest : Members) → members_have_float (question_front asked rest) ≡ members_have_float rest
+front_whole question.First rest = refl
+front_whole (question.Cell id) rest = refl
+front_whole (question.Session text) rest = refl
+front_whole (question.Claim key) rest = refl
+front_whole (question.Path text) rest = refl
+
+back_whole : (asked : Question) (rest : Members) → members_have_float (question_back asked rest) ≡ members_have_float rest
+back_whole question.First rest = refl
+back_whole (question.Cell id) rest = refl
+back_whole (question.Session text) rest = refl
+back_whole (question.Claim key) rest = refl
+back_whole (question.Path text) rest = refl
+
+front_shallow : (asked : Question) (rest : Members) → members_depth (question_front asked rest) ≡ members_depth rest
+front_shallow question.First rest = omega arith
+front_shallow (question.Cell id) rest = omega arith
+front_shallow (question.Session text) rest = omega arith
+front_shallow (question.Claim key) rest = omega arith
+front_shallow (question.Path text) rest = omega arith
+
+back_shallow : (asked : Question) (rest : Members) → members_depth (question_back asked rest) ≡ members_depth rest
+back_shallow question.First rest = omega arith
+back_shallow (question.Cell id) rest = omega arith
+back_shallow (question.Session text) rest = omega arith
+back_shallow (question.Claim key) rest = omega arith
+back_shallow (question.Path text) rest = omega arith
+
 pub request_whole : (request : Request) → has_float (request_data request) ≡ false
 request_whole (Begin lease ops) = rw (items_whole create_data (λ create. refl) ops.creates, items_whole destroy_data (λ key. refl) ops.destroys) refl
 request_whole (Commit lease) = refl
@@ -33,6 +66,8 @@ request_whole (ListRequest cell None) = refl
 request_whole (ListRequest cell (Some lease)) = refl
 request_whole (Range cell n) = refl
 request_whole (Claims cell bucket first last after) = refl
+request_whole (Classify asked) = front_whole asked _ ∙ back_whole asked no_members
+request_whole (Page cell path named) = refl
 
 pub request_shallow : (request : Request) → depth (request_data request) ≤ max_depth
 request_shallow (Begin lease ops) = omega (arith, items_shallow create_data (λ create. omega arith) ops.creates, items_shallow destroy_data (λ key. omega arith) ops.destroys)
@@ -42,6 +77,8 @@ request_shallow (ListRequest cell None) = omega arith
 request_shallow (ListRequest cell (Some lease)) = omega arith
 request_shallow (Range cell n) = omega arith
 request_shallow (Claims cell bucket first last after) = omega arith
+request_shallow (Classify asked) = omega (arith, front_shallow asked (question_back asked no_members), back_shallow asked no_members)
+request_shallow (Page cell path named) = omega arith
 
 denied_whole : (lease : List ℕ) (denial : Denial) → has_float (denied_data lease denial) ≡ false
 denied_whole lease (Settled how) = refl
@@ -65,6 +102,11 @@ reply_whole (Ranged cell n ranged.UnknownCell) = refl
 reply_whole (Ranged cell n (ranged.TooFar next)) = refl
 reply_whole (Ranged cell n (ranged.Exhausted last)) = refl
 reply_whole (ClaimsReply cell bucket first last after page) = rw (items_whole claim_item (λ claim. refl) page.items) refl
+reply_whole (Classified asked (InCell id)) = front_whole asked _ ∙ back_whole asked no_members
+reply_whole (Classified asked NotFound) = front_whole asked _ ∙ back_whole asked no_members
+reply_whole (Classified asked UnknownCell) = front_whole asked _ ∙ back_whole asked no_members
+reply_whole (PageReply cell path named None) = refl
+reply_whole (PageReply cell path named (Some id)) = refl
 reply_whole (NoCell cell) = refl
 
 denied_shallow : (lease : List ℕ) (denial : Denial) → depth (denied_data lease denial) ≤ max_depth
@@ -78,6 +120,9 @@ denied_shallow lease (Owned key cell) = omega arith
 denied_shallow lease (Leased key by) = omega arith
 denied_shallow lease (NotOwned key) = omega arith
 
+abbrev behind_front : Question → List ℕ → Members
+behind_front asked word = text (codes "reply") (codes "classified") (text (codes "result") word (question_back asked no_members))
+
 pub reply_shallow : (reply : Reply) → depth (reply_data reply) ≤ max_depth
 reply_shallow (Begun lease Good) = omega arith
 reply_shallow (Begun lease (Denied denial)) = denied_shallow (lease_text lease) denial
@@ -89,4 +134,9 @@ reply_shallow (Ranged cell n ranged.UnknownCell) = omega arith
 reply_shallow (Ranged cell n (ranged.TooFar next)) = omega arith
 reply_shallow (Ranged cell n (ranged.Exhausted last)) = omega arith
 reply_shallow (ClaimsReply cell bucket first last after page) = omega (arith, items_shallow claim_item (λ claim. omega arith) page.items)
+reply_shallow (Classified asked (InCell id)) = omega (arith, front_shallow asked (behind_front asked (codes "cell")), back_shallow asked no_members)
+reply_shallow (Classified asked NotFound) = omega (arith, front_shallow asked (behind_front asked (codes "not_found")), back_shallow asked no_members)
+reply_shallow (Classified asked UnknownCell) = omega (arith, front_shallow asked (behind_front asked (codes "unknown_cell")), back_shallow asked no_members)
+reply_shallow (PageReply cell path named None) = omega arith
+reply_shallow (PageReply cell path named (Some id)) = omega arith
 reply_shallow (NoCell cell) = omega arith

@@ -1,8 +1,8 @@
 pub mod Members
 pub mod Reading
-pub mod Bounds
-pub mod Requests
+pub mod RequestReader
+pub mod ReplyReader
 pub mod Texts
-pub mod RequestTexts
-pub mod Replies
-pub mod ReplyReading
+pub mod RequestWriter
+pub mod ReplyWriter
+pub mod FaultWriter

@@ -1,5 +1,6 @@
 -- How the members of a body are read: one after the other, up to the first fault.
-use Rattle.std.specs.Prelude.{◌≡◌, ℕ, ◌-◌, ◌^◌, Bool, ◌||◌, nat_lt, if◌then◌else◌, List, [], ◌∷◌, ◌++◌, Option, Some, None, option_and_then, Result, Ok, Err}
+use Rattle.std.specs.Prelude.{◌≡◌, ℕ, Bool, ◌||◌, nat_lt, if◌then◌else◌, List, [], ◌∷◌, ◌++◌, length, codes, Option, Some, None, option_and_then, Result, Ok, Err}
+use Rattle.std.specs.Str.{bytes_eq}
 use Rattle.serde_json.specs.Data.{Data, null, boolean, number, string, array, object, Items, no_items, item}
 use Rattle.serde_json.specs.Find.{get, as_bool, as_number, as_u64, as_str, as_array}
 use denote.Ref.{Bor}
@@ -16,9 +17,11 @@ use Rattle.claim_types.specs.declared.key.KeyFault.{KeyFault}
 use Rattle.claim_types.specs.declared.key.Bucket.{Bucket}
 use Rattle.claim_types.specs.declared.record.Kind.{Kind}
 use Rattle.claim_types.specs.declared.page.ClaimItem.{ClaimItem}
-use Rattle.claim_types.specs.declared.limits.TheConstants.{GREATEST_IDENTIFIER, GREATEST_CELL}
+use Rattle.claim_types.specs.declared.question.Question.{Question}
+use Rattle.claim_types.specs.declared.question.Question.TheVariants as question
+use Rattle.claim_types.specs.declared.limits.TheConstants.{GREATEST_IDENTIFIER, GREATEST_CELL, TEXT_BYTES}
 use Rattle.message_json.specs.declared.member.Member.{Member}
-use Rattle.message_json.specs.declared.member.Member.TheVariants.{Bucket as BucketMember, Value as ValueMember, Subject as SubjectMember, Table as TableMember, SubjectId, Row, After}
+use Rattle.message_json.specs.declared.member.Member.TheVariants.{Bucket as BucketMember, Value as ValueMember, Subject as SubjectMember, Table as TableMember, SubjectId, Row, After, By, Cell as CellMember, Text as TextMember}
 use Rattle.message_json.specs.declared.fault.BodyFault.{BodyFault}
 use Rattle.message_json.specs.declared.fault.BodyFault.TheVariants.{NotJson, Missing, WrongKind, BadValue, Memory}
 use Rattle.message_json.specs.Members.{member_text}
@@ -69,10 +72,6 @@ between low high (Some n) = if nat_lt n low || nat_lt high n then None else Some
 
 unfoldable pub number_member : Member → ℕ → ℕ → Data → Result ℕ BodyFault
 number_member which low high body = member_of which body >>= λ d. of_kind which (as_number d) >>= λ n. in_bounds which (between low high (as_u64 n))
-
--- the greatest number of 64 bits
-abbrev pub greatest_number : ℕ
-greatest_number = 2 ^ 64 - 1
 
 -- a cell's number
 abbrev pub cell_named : Member → Data → Result ℕ BodyFault
@@ -147,6 +146,38 @@ claim_members bucket body = do
   table ← table_member body
   row ← number_member Row 1 GREATEST_IDENTIFIER body
   Ok (record { key = key; subject = record { kind = subject_kind; id = subject_id }; origin = record { table = table; row = row } })
+
+-- a text that is asked for, which is not too long
+abbrev pub short : List ℕ → Option (List ℕ)
+short text = if nat_lt TEXT_BYTES (length text) then None else Some text
+
+unfoldable pub short_member : Member → Data → Result (List ℕ) BodyFault
+short_member which body = text_member which body >>= λ text. in_bounds which (short text)
+
+-- a question: the word that it is asked by says which members follow
+abbrev pub cell_question : Data → Result Question BodyFault
+cell_question body = cell_named CellMember body >>= λ id. Ok (question.Cell id)
+
+abbrev pub session_question : Data → Result Question BodyFault
+session_question body = short_member TextMember body >>= λ text. Ok (question.Session text)
+
+abbrev pub claim_question : Data → Result Question BodyFault
+claim_question body = key_members body >>= λ key. Ok (question.Claim key)
+
+abbrev pub path_question : Data → Result Question BodyFault
+path_question body = short_member TextMember body >>= λ text. Ok (question.Path text)
+
+abbrev pub question_by : List ℕ → Data → Result Question BodyFault
+question_by word body =
+    if bytes_eq word (codes "first") then Ok question.First
+    else if bytes_eq word (codes "cell") then cell_question body
+    else if bytes_eq word (codes "session") then session_question body
+    else if bytes_eq word (codes "claim") then claim_question body
+    else if bytes_eq word (codes "path") then path_question body
+    else Err (BadValue By)
+
+unfoldable pub question_member : Data → Result Question BodyFault
+question_member body = text_member By body >>= λ word. question_by word body
 
 -- what a reader that lends a part of the body found
 abbrev pub Finds : Result (Bor Value) BodyFault → Result Data BodyFault → Type 0

@@ -1,9 +1,12 @@
--- How leases, words and claims are written in a body.
-use Rattle.std.specs.Prelude.{ℕ, List}
+-- How leases, words and questions are written in a body.
+use Rattle.std.specs.Prelude.{ℕ, List, codes}
 use Rattle.serde_json.specs.Data.{string, number, Members, member, unsigned}
 use Rattle.uuid.specs.Text.{hyphenated_text, lower}
 use Rattle.claim_types.specs.Leases.{lease_bytes}
+use Rattle.claim_types.specs.Names.{bucket_name}
 use Rattle.claim_types.specs.declared.lease.LeaseId.{LeaseId}
+use Rattle.claim_types.specs.declared.question.Question.{Question}
+use Rattle.claim_types.specs.declared.question.Question.TheVariants.{First, Cell, Session, Claim, Path}
 
 -- the text of a lease: the lower-case hyphenated form of its UUID
 unfoldable pub lease_text : LeaseId → List ℕ
@@ -15,3 +18,18 @@ text which value rest = member which (string value) rest
 
 abbrev pub count : List ℕ → ℕ → Members → Members
 count which value rest = member which (number (unsigned value)) rest
+
+-- the members of a question: those that stand in front of `reply`, and those behind it
+abbrev pub question_front : Question → Members → Members
+question_front First rest = text (codes "by") (codes "first") rest
+question_front (Cell id) rest = text (codes "by") (codes "cell") (count (codes "cell") id rest)
+question_front (Session asked) rest = text (codes "by") (codes "session") rest
+question_front (Claim key) rest = text (codes "bucket") (bucket_name key.bucket) (text (codes "by") (codes "claim") rest)
+question_front (Path asked) rest = text (codes "by") (codes "path") rest
+
+abbrev pub question_back : Question → Members → Members
+question_back First rest = rest
+question_back (Cell id) rest = rest
+question_back (Session asked) rest = text (codes "text") asked rest
+question_back (Claim key) rest = text (codes "value") key.value rest
+question_back (Path asked) rest = text (codes "text") asked rest

@@ -1,7 +1,7 @@
 //! Faults as they are written.
 ghost use Rattle.std.specs.Prelude.{◌≡◌, IfOk};
 ghost use Rattle.serde_json.specs.View.{view};
-ghost use Rattle.message_json.specs.Replies as spec;
+ghost use Rattle.message_json.specs.FaultWriter as spec;
 
 use crate::BodyFault;
 use crate::texts::compact;
@@ -35,7 +35,7 @@ fn fault_value(alloc: Global, fault: BodyFault) -> Result<Value, AllocError>
 
 /// The body that names a fault: `not json`, `missing`, `wrong kind`, `bad value` or `memory`, the
 /// middle three with the member's name.
-#[tactic(auto, unfolding(crate::specs::Replies::fault_text))]
+#[tactic(auto, unfolding(crate::specs::FaultWriter::fault_text))]
 pub fn write_fault(alloc: Global, fault: BodyFault) -> Result<Text, NoMemory>
     ensures { IfOk result (λ text. text ≡ spec.fault_text fault) }
 {

@@ -3,11 +3,11 @@ ghost use Rattle.std.specs.Prelude.{◌≡◌, Ok};
 ghost use Rattle.claim_types.specs.declared.message.Reply.{Reply};
 ghost use Rattle.claim_types.specs.declared.message.Request.{Request};
 ghost use Rattle.claim_types.specs.Writable.{IsWritableReply, IsWritableRequest};
-ghost use Rattle.message_json.specs.Bounds.{IsReply, IsRequest};
-ghost use Rattle.message_json.specs.Replies.{reply_data};
-ghost use Rattle.message_json.specs.ReplyReading as reply;
-ghost use Rattle.message_json.specs.RequestTexts.{request_data};
-ghost use Rattle.message_json.specs.Requests as request;
+ghost use Rattle.claim_types.specs.MessageBounds.{IsReply, IsRequest};
+ghost use Rattle.message_json.specs.ReplyWriter.{reply_data};
+ghost use Rattle.message_json.specs.ReplyReader as reply;
+ghost use Rattle.message_json.specs.RequestWriter.{request_data};
+ghost use Rattle.message_json.specs.RequestReader as request;
 
 /// A request that was written is read again as the same, and a request within its bounds can be
 /// written.

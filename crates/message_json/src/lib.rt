@@ -6,10 +6,10 @@
 //! let reply = read_reply(alloc, body.as_slice())?;
 //! ```
 //!
-//! Members are sought depth first, in the order of `specs/Requests` and `specs/ReplyReading`: the
+//! Members are sought depth first, in the order of `specs/RequestReader` and `specs/ReplyReader`: the
 //! first one that is absent, of another kind or outside its bounds is the fault. Members that no
-//! rule names are passed over. The bodies that are written stand in `specs/RequestTexts` and
-//! `specs/Replies`, and the bounds in `specs/Bounds`.
+//! rule names are passed over. The bodies that are written stand in `specs/RequestWriter` and
+//! `specs/ReplyWriter`, and the bounds in `claim_types/specs/MessageBounds`.
 //!
 //! Promised: the readers give exactly the message, or the first fault, that these definitions state
 //! for the value that `serde_json` reads; the writers give exactly their texts; and what a writer
@@ -22,9 +22,9 @@ mod fault_writer;
 mod laws;
 mod member;
 mod reader;
-mod reply;
 mod reply_reader;
-mod request;
+mod reply_writer;
+mod request_reader;
 mod request_writer;
 #[cfg(test)]
 mod tests;
@@ -34,7 +34,7 @@ pub use fault::BodyFault;
 pub use fault_writer::write_fault;
 pub use laws::{replies_return, requests_return};
 pub use member::Member;
-pub use reply::write_reply;
 pub use reply_reader::read_reply;
-pub use request::read_request;
+pub use reply_writer::write_reply;
+pub use request_reader::read_request;
 pub use request_writer::write_request;

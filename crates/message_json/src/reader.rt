@@ -1,23 +1,23 @@
 //! The members of a body, each read by its rule.
 ghost use Rattle.std.specs.Prelude.{◌≡◌, ◌≤◌, IfOk, IfSome};
-ghost use Rattle.claim_types.specs.Bounds.{IsCell, IsSubjectKind};
+ghost use Rattle.claim_types.specs.Bounds.{IsCell, IsSubjectKind, IsClaim, IsKey, IsText};
+ghost use Rattle.claim_types.specs.MessageBounds.{IsAfter, IsQuestion};
 ghost use Rattle.claim_types.specs.Leases.{IsLease};
 ghost use Rattle.serde_json.specs.View.{view, items_view};
-ghost use Rattle.message_json.specs.Bounds.{IsAfter, IsClaim, IsKey};
 ghost use Rattle.message_json.specs.Reading as spec;
 ghost use Rattle.message_json.specs.Reading.{Gives};
 
 use crate::{BodyFault, Member};
 use claim_types::{
     Bucket, ClaimItem, ClaimKey, GREATEST_CELL, GREATEST_IDENTIFIER, KeyFault, Kind, LeaseId,
-    Origin, Subject,
+    Origin, Question, Subject, TEXT_BYTES, Text,
 };
 use serde_json::Value;
 use std::alloc::Global;
 use uuid::Uuid;
 
 #[tactic(auto, unfolding(crate::specs::Reading::member_of))]
-fn member_of(body: &Value, name: Member) -> Result<&Value, BodyFault>
+pub fn member_of(body: &Value, name: Member) -> Result<&Value, BodyFault>
     ensures { spec.Finds result (spec.member_of name (view body.now)) }
 {
     match body.get(name.text()) {
@@ -207,4 +207,52 @@ pub fn claim(alloc: Global, body: &Value, bucket: Bucket) -> Result<ClaimItem, B
         subject: Subject { kind, id },
         origin: Origin { table, row },
     })
+}
+
+// A text that is asked for, which is not too long.
+#[tactic(auto, unfolding(crate::specs::Reading::short_member))]
+pub fn short_text(alloc: Global, body: &Value, name: Member) -> Result<Text, BodyFault>
+    ensures value { Gives result (spec.short_member name (view body.now)) }
+    ensures bounds { IfOk result IsText }
+{
+    let text = text(body, name)?;
+    if TEXT_BYTES < text.len() as u64 {
+        return Err(BodyFault::BadValue { name });
+    }
+    Ok(Text::from_slice(alloc, text.as_bytes())?)
+}
+
+fn question_by(alloc: Global, word: &str, body: &Value) -> Result<Question, BodyFault>
+    ensures value { Gives result (spec.question_by word.now (view body.now)) }
+    ensures bounds { IfOk result IsQuestion }
+{
+    match word {
+        "first" => Ok(Question::First),
+        "cell" => {
+            let id = cell(body, Member::Cell)?;
+            Ok(Question::Cell { id })
+        }
+        "session" => {
+            let text = short_text(alloc, body, Member::Text)?;
+            Ok(Question::Session { text })
+        }
+        "claim" => {
+            let key = key_of(alloc, body)?;
+            Ok(Question::Claim { key })
+        }
+        "path" => {
+            let text = short_text(alloc, body, Member::Text)?;
+            Ok(Question::Path { text })
+        }
+        _ => Err(BodyFault::BadValue { name: Member::By }),
+    }
+}
+
+// A question, by the word that it is asked by and the members of that word.
+#[tactic(auto, unfolding(crate::specs::Reading::question_member))]
+pub fn question(alloc: Global, body: &Value) -> Result<Question, BodyFault>
+    ensures value { Gives result (spec.question_member (view body.now)) }
+    ensures bounds { IfOk result IsQuestion }
+{
+    question_by(alloc, text(body, Member::By)?, body)
 }

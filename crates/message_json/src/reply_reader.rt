@@ -5,21 +5,25 @@ ghost use Rattle.claim_types.specs.Leases.{IsLease};
 ghost use Rattle.claim_types.specs.Writable.{IsWritableReply};
 ghost use Rattle.serde_json.specs.View.{view, items_view};
 ghost use Rattle.serde_json.specs.Read.{read as read_text};
-ghost use Rattle.message_json.specs.Bounds.{IsBegunResult, IsClaim, IsDenial, IsRangedResult, IsReply};
+ghost use Rattle.claim_types.specs.Bounds.{IsClaim};
+ghost use Rattle.claim_types.specs.MessageBounds.{IsBegunResult, IsClass, IsDenial, IsFound, IsRangedResult, IsReply};
 ghost use Rattle.message_json.specs.Reading.{Gives, each};
-ghost use Rattle.message_json.specs.ReplyReading as spec;
+ghost use Rattle.message_json.specs.ReplyReader as spec;
 
-use crate::reader::{array, bucket, cell, claim, flag, key_of, lease, lease_named, number, text};
+use crate::reader::{
+    array, bucket, cell, claim, flag, key_of, lease, lease_named, member_of, number, question,
+    short_text, text,
+};
 use crate::{BodyFault, Member};
 use claim_types::{
-    BegunResult, Bucket, ClaimItem, ClaimItems, ClaimPage, CommittedResult, Denial,
-    GREATEST_IDENTIFIER, How, Items, LeaseId, LeaseIds, LeasePage, RangedResult, Reply,
-    RolledBackResult,
+    BegunResult, Bucket, ClaimItem, ClaimItems, ClaimPage, Class, CommittedResult, Denial,
+    GREATEST_IDENTIFIER, GREATEST_NUMBER, How, Items, LeaseId, LeaseIds, LeasePage, RangedResult,
+    Reply, RolledBackResult,
 };
 use serde_json::Value;
 use std::alloc::Global;
 
-#[tactic(auto, unfolding(crate::specs::ReplyReading::how_member))]
+#[tactic(auto, unfolding(crate::specs::ReplyReader::how_member))]
 fn how(body: &Value) -> Result<How, BodyFault>
     ensures { result ≡ spec.how_member (view body.now) }
 {
@@ -31,7 +35,7 @@ fn how(body: &Value) -> Result<How, BodyFault>
     }
 }
 
-#[tactic(auto, unfolding(crate::specs::ReplyReading::keyed_denial_of))]
+#[tactic(auto, unfolding(crate::specs::ReplyReader::keyed_denial_of))]
 fn keyed_denial(alloc: Global, word: &str, body: &Value) -> Result<Denial, BodyFault>
     ensures value { Gives result (spec.keyed_denial_of word.now (view body.now)) }
     ensures bounds { IfOk result IsDenial }
@@ -63,7 +67,7 @@ fn keyed_denial(alloc: Global, word: &str, body: &Value) -> Result<Denial, BodyF
     }
 }
 
-#[tactic(auto, unfolding(crate::specs::ReplyReading::denial_of))]
+#[tactic(auto, unfolding(crate::specs::ReplyReader::denial_of))]
 fn denial(alloc: Global, word: &str, body: &Value) -> Result<Denial, BodyFault>
     ensures value { Gives result (spec.denial_of word.now (view body.now)) }
     ensures bounds { IfOk result IsDenial }
@@ -75,11 +79,11 @@ fn denial(alloc: Global, word: &str, body: &Value) -> Result<Denial, BodyFault>
         }
         "other_operations" => Ok(Denial::OtherOperations),
         "count" => {
-            let n = number(body, Member::N, 0, u64::MAX)?;
+            let n = number(body, Member::N, 0, GREATEST_NUMBER)?;
             Ok(Denial::NoneOrTooMany { n })
         }
         "foreign_id" => {
-            let id = number(body, Member::Id, 0, u64::MAX)?;
+            let id = number(body, Member::Id, 0, GREATEST_NUMBER)?;
             Ok(Denial::ForeignId { id })
         }
         "too_many_open" => Ok(Denial::TooManyOpen),
@@ -87,7 +91,7 @@ fn denial(alloc: Global, word: &str, body: &Value) -> Result<Denial, BodyFault>
     }
 }
 
-#[tactic(auto, unfolding(crate::specs::ReplyReading::begun_member))]
+#[tactic(auto, unfolding(crate::specs::ReplyReader::begun_member))]
 fn begun_result(alloc: Global, body: &Value) -> Result<BegunResult, BodyFault>
     ensures value { Gives result (spec.begun_member (view body.now)) }
     ensures bounds { IfOk result IsBegunResult }
@@ -100,7 +104,7 @@ fn begun_result(alloc: Global, body: &Value) -> Result<BegunResult, BodyFault>
     Ok(BegunResult::Denied(denial))
 }
 
-#[tactic(auto, unfolding(crate::specs::ReplyReading::begun_of))]
+#[tactic(auto, unfolding(crate::specs::ReplyReader::begun_of))]
 fn begun(alloc: Global, body: &Value) -> Result<Reply, BodyFault>
     ensures value { Gives result (spec.begun_of (view body.now)) }
     ensures bounds { IfOk result IsReply }
@@ -110,7 +114,7 @@ fn begun(alloc: Global, body: &Value) -> Result<Reply, BodyFault>
     Ok(Reply::Begun { lease, result })
 }
 
-#[tactic(auto, unfolding(crate::specs::ReplyReading::committed_member))]
+#[tactic(auto, unfolding(crate::specs::ReplyReader::committed_member))]
 fn committed_result(body: &Value) -> Result<CommittedResult, BodyFault>
     ensures { result ≡ spec.committed_member (view body.now) }
 {
@@ -123,7 +127,7 @@ fn committed_result(body: &Value) -> Result<CommittedResult, BodyFault>
     }
 }
 
-#[tactic(auto, unfolding(crate::specs::ReplyReading::committed_of))]
+#[tactic(auto, unfolding(crate::specs::ReplyReader::committed_of))]
 fn committed(body: &Value) -> Result<Reply, BodyFault>
     ensures value { Gives result (spec.committed_of (view body.now)) }
     ensures bounds { IfOk result IsReply }
@@ -133,7 +137,7 @@ fn committed(body: &Value) -> Result<Reply, BodyFault>
     Ok(Reply::Committed { lease, result })
 }
 
-#[tactic(auto, unfolding(crate::specs::ReplyReading::rolled_back_member))]
+#[tactic(auto, unfolding(crate::specs::ReplyReader::rolled_back_member))]
 fn rolled_back_result(body: &Value) -> Result<RolledBackResult, BodyFault>
     ensures { result ≡ spec.rolled_back_member (view body.now) }
 {
@@ -145,7 +149,7 @@ fn rolled_back_result(body: &Value) -> Result<RolledBackResult, BodyFault>
     }
 }
 
-#[tactic(auto, unfolding(crate::specs::ReplyReading::rolled_back_of))]
+#[tactic(auto, unfolding(crate::specs::ReplyReader::rolled_back_of))]
 fn rolled_back(body: &Value) -> Result<Reply, BodyFault>
     ensures value { Gives result (spec.rolled_back_of (view body.now)) }
     ensures bounds { IfOk result IsReply }
@@ -155,7 +159,7 @@ fn rolled_back(body: &Value) -> Result<Reply, BodyFault>
     Ok(Reply::RolledBack { lease, result })
 }
 
-#[tactic(auto, unfolding(crate::specs::ReplyReading::lease_element))]
+#[tactic(auto, unfolding(crate::specs::ReplyReader::lease_element))]
 fn lease_element(value: &Value) -> Result<LeaseId, BodyFault>
     ensures value { Gives result (spec.lease_element (view value.now)) }
     ensures bounds { IfOk result IsLease }
@@ -182,7 +186,7 @@ fn lease_elements(alloc: Global, values: &[Value]) -> Result<LeaseIds, BodyFault
     Ok(Items::from_vec(leases))
 }
 
-#[tactic(auto, unfolding(crate::specs::ReplyReading::leases_member))]
+#[tactic(auto, unfolding(crate::specs::ReplyReader::leases_member))]
 fn leases_in(alloc: Global, body: &Value) -> Result<LeaseIds, BodyFault>
     ensures value { Gives result (spec.leases_member (view body.now)) }
     ensures bounds { IfOk result (All IsLease) }
@@ -190,7 +194,7 @@ fn leases_in(alloc: Global, body: &Value) -> Result<LeaseIds, BodyFault>
     lease_elements(alloc, array(body, Member::Leases)?)
 }
 
-#[tactic(auto, unfolding(crate::specs::ReplyReading::leases_of))]
+#[tactic(auto, unfolding(crate::specs::ReplyReader::leases_of))]
 fn leases(alloc: Global, body: &Value) -> Result<Reply, BodyFault>
     ensures value { Gives result (spec.leases_of (view body.now)) }
     ensures bounds { IfOk result IsReply }
@@ -202,7 +206,7 @@ fn leases(alloc: Global, body: &Value) -> Result<Reply, BodyFault>
     Ok(Reply::Leases { cell, page })
 }
 
-#[tactic(auto, unfolding(crate::specs::ReplyReading::ranged_member))]
+#[tactic(auto, unfolding(crate::specs::ReplyReader::ranged_member))]
 fn ranged_result(body: &Value) -> Result<RangedResult, BodyFault>
     ensures value { Gives result (spec.ranged_member (view body.now)) }
     ensures bounds { IfOk result IsRangedResult }
@@ -216,7 +220,7 @@ fn ranged_result(body: &Value) -> Result<RangedResult, BodyFault>
         }
         "unknown_cell" => Ok(RangedResult::UnknownCell),
         "too_far" => {
-            let next = number(body, Member::Next, 1, u64::MAX)?;
+            let next = number(body, Member::Next, 1, GREATEST_NUMBER)?;
             Ok(RangedResult::TooFar { next })
         }
         "exhausted" => {
@@ -227,13 +231,13 @@ fn ranged_result(body: &Value) -> Result<RangedResult, BodyFault>
     }
 }
 
-#[tactic(auto, unfolding(crate::specs::ReplyReading::ranged_of))]
+#[tactic(auto, unfolding(crate::specs::ReplyReader::ranged_of))]
 fn ranged(body: &Value) -> Result<Reply, BodyFault>
     ensures value { Gives result (spec.ranged_of (view body.now)) }
     ensures bounds { IfOk result IsReply }
 {
     let cell = cell(body, Member::Cell)?;
-    let number = number(body, Member::Number, 1, u64::MAX)?;
+    let number = number(body, Member::Number, 1, GREATEST_NUMBER)?;
     let result = ranged_result(body)?;
     Ok(Reply::Ranged {
         cell,
@@ -242,7 +246,7 @@ fn ranged(body: &Value) -> Result<Reply, BodyFault>
     })
 }
 
-#[tactic(auto, unfolding(crate::specs::ReplyReading::claim_element))]
+#[tactic(auto, unfolding(crate::specs::ReplyReader::claim_element))]
 fn claim_element(alloc: Global, value: &Value, bucket: Bucket) -> Result<ClaimItem, BodyFault>
     ensures value { Gives result (spec.claim_element bucket (view value.now)) }
     ensures bounds { IfOk result (IsClaim bucket) }
@@ -266,7 +270,7 @@ fn claim_elements(alloc: Global, values: &[Value], bucket: Bucket) -> Result<Cla
     Ok(Items::from_vec(claims))
 }
 
-#[tactic(auto, unfolding(crate::specs::ReplyReading::items_member))]
+#[tactic(auto, unfolding(crate::specs::ReplyReader::items_member))]
 fn items(alloc: Global, body: &Value, bucket: Bucket) -> Result<ClaimItems, BodyFault>
     ensures value { Gives result (spec.items_member bucket (view body.now)) }
     ensures bounds { IfOk result (All (IsClaim bucket)) }
@@ -274,15 +278,15 @@ fn items(alloc: Global, body: &Value, bucket: Bucket) -> Result<ClaimItems, Body
     claim_elements(alloc, array(body, Member::Items)?, bucket)
 }
 
-#[tactic(auto, unfolding(crate::specs::ReplyReading::claims_of))]
+#[tactic(auto, unfolding(crate::specs::ReplyReader::claims_of))]
 fn claims(alloc: Global, body: &Value) -> Result<Reply, BodyFault>
     ensures value { Gives result (spec.claims_of (view body.now)) }
     ensures bounds { IfOk result IsReply }
 {
     let cell = cell(body, Member::Cell)?;
     let bucket = bucket(body)?;
-    let first = number(body, Member::First, 0, u64::MAX)?;
-    let last = number(body, Member::Last, first, u64::MAX)?;
+    let first = number(body, Member::First, 0, GREATEST_NUMBER)?;
+    let last = number(body, Member::Last, first, GREATEST_NUMBER)?;
     let after = number(body, Member::After, 0, GREATEST_IDENTIFIER)?;
     let items = items(alloc, body, bucket)?;
     let more = flag(body, Member::More)?;
@@ -296,7 +300,76 @@ fn claims(alloc: Global, body: &Value) -> Result<Reply, BodyFault>
     })
 }
 
-#[tactic(auto, unfolding(crate::specs::ReplyReading::no_cell_of))]
+#[tactic(auto, unfolding(crate::specs::ReplyReader::class_member))]
+fn class(body: &Value) -> Result<Class, BodyFault>
+    ensures value { result ≡ spec.class_member (view body.now) }
+    ensures bounds { IfOk result IsClass }
+{
+    let name = Member::Result;
+    match text(body, name)? {
+        "cell" => {
+            let id = cell(body, Member::Answer)?;
+            Ok(Class::Cell { id })
+        }
+        "not_found" => Ok(Class::NotFound),
+        "unknown_cell" => Ok(Class::UnknownCell),
+        _ => Err(BodyFault::BadValue { name }),
+    }
+}
+
+#[tactic(auto, unfolding(crate::specs::ReplyReader::classified_of))]
+fn classified(alloc: Global, body: &Value) -> Result<Reply, BodyFault>
+    ensures value { Gives result (spec.classified_of (view body.now)) }
+    ensures bounds { IfOk result IsReply }
+{
+    let question = question(alloc, body)?;
+    let class = class(body)?;
+    Ok(Reply::Classified { question, class })
+}
+
+fn found_or_null(value: &Value) -> Result<Option<u64>, BodyFault>
+    ensures value { result ≡ spec.found_or_null (view value.now) }
+    ensures bounds { IfOk result IsFound }
+{
+    let name = Member::Found;
+    match value {
+        Value::Null => Ok(None),
+        Value::Number(number) => {
+            match number.as_u64() {
+                Some(id) if id <= GREATEST_IDENTIFIER => Ok(Some(id)),
+                _ => Err(BodyFault::BadValue { name }),
+            }
+        }
+        _ => Err(BodyFault::WrongKind { name }),
+    }
+}
+
+#[tactic(auto, unfolding(crate::specs::ReplyReader::found_member))]
+fn found(body: &Value) -> Result<Option<u64>, BodyFault>
+    ensures value { result ≡ spec.found_member (view body.now) }
+    ensures bounds { IfOk result IsFound }
+{
+    found_or_null(member_of(body, Member::Found)?)
+}
+
+#[tactic(auto, unfolding(crate::specs::ReplyReader::page_of))]
+fn page(alloc: Global, body: &Value) -> Result<Reply, BodyFault>
+    ensures value { Gives result (spec.page_of (view body.now)) }
+    ensures bounds { IfOk result IsReply }
+{
+    let cell = cell(body, Member::Cell)?;
+    let path = short_text(alloc, body, Member::Path)?;
+    let named = flag(body, Member::Named)?;
+    let found = found(body)?;
+    Ok(Reply::Page {
+        cell,
+        path,
+        named,
+        found,
+    })
+}
+
+#[tactic(auto, unfolding(crate::specs::ReplyReader::no_cell_of))]
 fn no_cell(body: &Value) -> Result<Reply, BodyFault>
     ensures value { Gives result (spec.no_cell_of (view body.now)) }
     ensures bounds { IfOk result IsReply }
@@ -316,6 +389,8 @@ fn replied(alloc: Global, word: &str, body: &Value) -> Result<Reply, BodyFault>
         "leases" => leases(alloc, body),
         "ranged" => ranged(body),
         "claims" => claims(alloc, body),
+        "classified" => classified(alloc, body),
+        "page" => page(alloc, body),
         "no_cell" => no_cell(body),
         _ => {
             Err(BodyFault::BadValue {
@@ -325,7 +400,7 @@ fn replied(alloc: Global, word: &str, body: &Value) -> Result<Reply, BodyFault>
     }
 }
 
-#[tactic(auto, unfolding(crate::specs::ReplyReading::of_object))]
+#[tactic(auto, unfolding(crate::specs::ReplyReader::of_object))]
 fn reply_of_object(alloc: Global, body: &Value) -> Result<Reply, BodyFault>
     ensures value { Gives result (spec.of_object (view body.now)) }
     ensures bounds { IfOk result IsReply }
@@ -359,7 +434,7 @@ fn reply_of_text(alloc: Global, text: &str) -> Result<Reply, BodyFault>
 }
 
 /// The reply that a body is: a JSON object in UTF-8 whose `reply` names one of the replies, with
-/// the members that `specs/ReplyReading` gives it. Otherwise the first fault in the order of these
+/// the members that `specs/ReplyReader` gives it. Otherwise the first fault in the order of these
 /// members. The claims of a page have the page's bucket.
 pub fn read_reply(alloc: Global, body: &[u8]) -> Result<Reply, BodyFault>
     ensures value { Gives result (spec.reply_of body.now) }

@@ -1,18 +1,21 @@
 //! Requests as they are written.
-ghost use Rattle.std.specs.Prelude.{◌≡◌, IfOk, map};
+ghost use Rattle.std.specs.Prelude.{◌≡◌, IfOk, IsUtf8, codes, map};
 ghost use Rattle.std.specs.List.{All};
-ghost use Rattle.serde_json.specs.Data.{null, string};
+ghost use Rattle.serde_json.specs.Data.{null, string, object, no_members};
+ghost use Rattle.claim_types.specs.declared.question.Question.TheVariants as question;
 ghost use Rattle.claim_types.specs.Names.{bucket_name};
-ghost use Rattle.message_json.specs.Bounds.{IsAfter, IsRequest};
-ghost use Rattle.message_json.specs.Requests.{request_of};
+ghost use Rattle.claim_types.specs.MessageBounds.{IsAfter, IsRequest};
+ghost use Rattle.message_json.specs.RequestReader.{request_of};
 ghost use Rattle.serde_json.specs.View.{view, items_view, items_of};
 ghost use Rattle.claim_types.specs.Leases.{IsLease};
-ghost use Rattle.claim_types.specs.Writable.{AreWritable, IsWritableKey, IsWritableRequest};
-ghost use Rattle.message_json.specs.Texts.{lease_text};
-ghost use Rattle.message_json.specs.RequestTexts as spec;
+ghost use Rattle.claim_types.specs.Writable.{AreWritable, IsWritableKey, IsWritableQuestion, IsWritableRequest};
+ghost use Rattle.message_json.specs.Texts.{lease_text, text};
+ghost use Rattle.message_json.specs.RequestWriter as spec;
 
 use crate::texts::{compact, lease_text, text_of};
-use claim_types::{Bucket, ClaimKey, Create, LeaseId, NoMemory, Operations, Request, Text};
+use claim_types::{
+    Bucket, ClaimKey, Create, LeaseId, NoMemory, Operations, Question, Request, Text,
+};
 use serde_json::{Value, json};
 use std::alloc::{AllocError, Global};
 use uuid::Uuid;
@@ -142,6 +145,55 @@ fn claims(
     json!(in alloc; { "after": after, "ask": "claims", "bucket": bucket, "cell": cell, "first": first, "last": last })
 }
 
+fn classify_first(alloc: Global) -> Result<Value, AllocError>
+    ensures { IfOk result (λ v. view v ≡ spec.classify_data question.First) }
+{
+    json!(in alloc; { "ask": "classify", "by": "first" })
+}
+
+fn classify_cell(alloc: Global, id: u16) -> Result<Value, AllocError>
+    ensures { IfOk result (λ v. view v ≡ spec.classify_data (question.Cell id)) }
+{
+    json!(in alloc; { "ask": "classify", "by": "cell", "cell": id })
+}
+
+// A question by a text: by `session` or by `path`.
+fn classify_text(alloc: Global, by: &str, asked: &str) -> Result<Value, AllocError>
+    ensures { IfOk result (λ v. view v ≡ object (text (codes "ask") (codes "classify") (text (codes "by") by.now (text (codes "text") asked.now no_members)))) }
+{
+    json!(in alloc; { "ask": "classify", "by": by, "text": asked })
+}
+
+fn classify_claim(alloc: Global, key: &ClaimKey) -> Result<Value, AllocError>
+    requires { IsWritableKey key.now }
+    ensures { IfOk result (λ v. view v ≡ spec.classify_data (question.Claim key.now)) }
+{
+    let bucket = key.bucket.name();
+    let value = text_of(&key.value);
+    json!(in alloc; { "ask": "classify", "bucket": bucket, "by": "claim", "value": value })
+}
+
+fn classify(alloc: Global, question: &Question) -> Result<Value, AllocError>
+    requires { IsWritableQuestion question.now }
+    ensures { IfOk result (λ v. view v ≡ spec.classify_data question.now) }
+{
+    match question {
+        Question::First => classify_first(alloc),
+        Question::Cell { id } => classify_cell(alloc, *id),
+        Question::Session { text } => classify_text(alloc, "session", text_of(text)),
+        Question::Claim { key } => classify_claim(alloc, key),
+        Question::Path { text } => classify_text(alloc, "path", text_of(text)),
+    }
+}
+
+fn page(alloc: Global, cell: u16, path: &Text, named: bool) -> Result<Value, AllocError>
+    requires { IsUtf8 path.now }
+    ensures { IfOk result (λ v. view v ≡ spec.page_data cell path.now named) }
+{
+    let path = text_of(path);
+    json!(in alloc; { "ask": "page", "cell": cell, "named": named, "path": path })
+}
+
 fn request_value(alloc: Global, request: &Request) -> Result<Value, AllocError>
     requires { IsWritableRequest request.now }
     ensures { IfOk result (λ v. view v ≡ spec.request_data request.now) }
@@ -159,12 +211,14 @@ fn request_value(alloc: Global, request: &Request) -> Result<Value, AllocError>
             last,
             after,
         } => claims(alloc, *cell, *bucket, *first, *last, *after),
+        Request::Classify { question } => classify(alloc, question),
+        Request::Page { cell, path, named } => page(alloc, *cell, path, *named),
     }
 }
 
-/// The body of a request: the compact JSON object that `specs/RequestTexts` states. A request within
-/// the bounds of `specs/Bounds` is read from it again.
-#[tactic(auto, unfolding(crate::specs::RequestTexts::request_text))]
+/// The body of a request: the compact JSON object that `specs/RequestWriter` states. A request within
+/// the bounds of `claim_types/specs/MessageBounds` is read from it again.
+#[tactic(auto, unfolding(crate::specs::RequestWriter::request_text))]
 pub fn write_request(alloc: Global, request: &Request) -> Result<Text, NoMemory>
     requires { IsWritableRequest request.now }
     ensures text { IfOk result (λ text. text ≡ spec.request_text request.now) }

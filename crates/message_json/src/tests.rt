@@ -107,6 +107,12 @@ fn each_request_is_read_and_written(rt: HostRuntime) -> Result<(), Fail> {
         r#"{"after":"00010000-0001-8000-8000-000000000001","ask":"list","cell":1}"#,
         r#"{"ask":"range","cell":1,"number":18446744073709551615}"#,
         r#"{"after":9223372036854775807,"ask":"claims","bucket":"ssh_key","cell":1,"first":0,"last":18446744073709551615}"#,
+        r#"{"ask":"classify","by":"first"}"#,
+        r#"{"ask":"classify","by":"cell","cell":999}"#,
+        r#"{"ask":"classify","by":"session","text":"cell-2-abc"}"#,
+        r#"{"ask":"classify","bucket":"route","by":"claim","value":"acme"}"#,
+        r#"{"ask":"classify","by":"path","text":""}"#,
+        r#"{"ask":"page","cell":1,"named":true,"path":"acme/x"}"#,
     ];
     assert_eq!(rt; BEGIN.len(), 192);
     for body in rows {
@@ -143,6 +149,14 @@ fn each_reply_is_read_and_written(rt: HostRuntime) -> Result<(), Fail> {
         r#"{"cell":1,"leases":["00010000-0001-8000-8000-000000000001","00010000-0001-8000-8000-000000000002"],"more":true,"reply":"leases"}"#,
         r#"{"cell":1,"leases":[],"more":false,"reply":"leases"}"#,
         r#"{"after":0,"bucket":"route","cell":1,"first":1,"items":[{"row":1,"subject":"group","subject_id":2,"table":2,"value":"acme"}],"last":9,"more":true,"reply":"claims"}"#,
+        r#"{"answer":1,"by":"first","reply":"classified","result":"cell"}"#,
+        r#"{"by":"cell","cell":9,"reply":"classified","result":"unknown_cell"}"#,
+        r#"{"answer":2,"by":"session","reply":"classified","result":"cell","text":"cell-2-abc"}"#,
+        r#"{"bucket":"route","by":"claim","reply":"classified","result":"not_found","value":"acme"}"#,
+        r#"{"by":"path","reply":"classified","result":"not_found","text":"acmex"}"#,
+        r#"{"cell":1,"found":null,"named":true,"path":"acme","reply":"page"}"#,
+        r#"{"cell":1,"found":9223372036854775807,"named":true,"path":"acme","reply":"page"}"#,
+        r#"{"cell":1,"found":0,"named":false,"path":"-/profile","reply":"page"}"#,
         r#"{"cell":4,"reply":"no_cell"}"#,
     ];
     assert_eq!(rt; BEGUN.len(), 78);
@@ -200,8 +214,7 @@ fn a_begin_names_its_first_fault(rt: HostRuntime) {
         (r#"{}"#, missing(Member::Ask)),
         (r#"{"ask":1}"#, wrong_kind(Member::Ask)),
         (r#"{"ask":"Begin"}"#, bad_value(Member::Ask)),
-        (r#"{"ask":"classify"}"#, bad_value(Member::Ask)),
-        (r#"{"ask":"page"}"#, bad_value(Member::Ask)),
+        (r#"{"ask":"classified"}"#, bad_value(Member::Ask)),
         (r#"{"ask":"begin","creates":1}"#, missing(Member::Lease)),
         (r#"{"ask":"begin","lease":null}"#, wrong_kind(Member::Lease)),
         (
@@ -332,6 +345,53 @@ fn each_other_ask_names_its_first_fault(rt: HostRuntime) {
 }
 
 #[test]
+fn a_question_names_its_first_fault(rt: HostRuntime) -> Result<(), Fail> {
+    let rows = [
+        (r#"{"ask":"classify","cell":0}"#, missing(Member::By)),
+        (r#"{"ask":"classify","by":1}"#, wrong_kind(Member::By)),
+        (r#"{"ask":"classify","by":"route"}"#, bad_value(Member::By)),
+        (
+            r#"{"ask":"classify","by":"cell","cell":0}"#,
+            bad_value(Member::Cell),
+        ),
+        (
+            r#"{"ask":"classify","by":"session"}"#,
+            missing(Member::Text),
+        ),
+        (
+            r#"{"ask":"classify","by":"claim","value":"a"}"#,
+            missing(Member::Bucket),
+        ),
+        (
+            r#"{"ask":"classify","by":"claim","bucket":"route","value":"a//b"}"#,
+            bad_value(Member::Value),
+        ),
+        (
+            r#"{"ask":"page","cell":1,"path":1}"#,
+            wrong_kind(Member::Path),
+        ),
+        (
+            r#"{"ask":"page","cell":1,"path":""}"#,
+            missing(Member::Named),
+        ),
+        (
+            r#"{"ask":"page","cell":1,"path":"","named":0}"#,
+            wrong_kind(Member::Named),
+        ),
+    ];
+    finds_faults(&rt, &rows);
+    let most = "a".repeat(rt.alloc(), 2048)?;
+    let whole = format!(in rt.alloc(); r#"{{"ask":"classify","by":"path","text":"{most}"}}"#)?;
+    assert_eq!(rt; request_fault(rt.alloc(), whole.as_str().as_bytes()), None);
+    let long = format!(in rt.alloc(); r#"{{"ask":"classify","by":"path","text":"{most}a"}}"#)?;
+    assert_eq!(rt;
+        request_fault(rt.alloc(), long.as_str().as_bytes()),
+        Some(bad_value(Member::Text))
+    );
+    Ok(())
+}
+
+#[test]
 fn a_request_for_claims_names_its_first_fault(rt: HostRuntime) {
     let rows = [
         (
@@ -370,8 +430,7 @@ fn a_request_for_claims_names_its_first_fault(rt: HostRuntime) {
 fn a_reply_names_its_first_fault(rt: HostRuntime) {
     let rows = [
         (r#"{"lease":1}"#, missing(Member::Reply)),
-        (r#"{"reply":"page"}"#, bad_value(Member::Reply)),
-        (r#"{"reply":"classified"}"#, bad_value(Member::Reply)),
+        (r#"{"reply":"classify"}"#, bad_value(Member::Reply)),
         (r#"{"reply":"begun"}"#, missing(Member::Lease)),
         (r#"{"reply":"no_cell","cell":0}"#, bad_value(Member::Cell)),
         (
@@ -397,6 +456,22 @@ fn a_reply_names_its_first_fault(rt: HostRuntime) {
         (
             r#"{"reply":"claims","cell":1,"bucket":"route","first":1,"last":1,"after":0,"items":[[]]}"#,
             wrong_kind(Member::Items),
+        ),
+        (
+            r#"{"reply":"classified","by":"first","result":"cell","answer":0}"#,
+            bad_value(Member::Answer),
+        ),
+        (
+            r#"{"reply":"classified","by":"first","result":"none"}"#,
+            bad_value(Member::Result),
+        ),
+        (
+            r#"{"reply":"page","cell":1,"path":"","named":true,"found":"1"}"#,
+            wrong_kind(Member::Found),
+        ),
+        (
+            r#"{"reply":"page","cell":1,"path":"","named":true,"found":9223372036854775808}"#,
+            bad_value(Member::Found),
         ),
     ];
     finds_reply_faults(&rt, &rows);

@@ -15,7 +15,8 @@ use std::alloc::Global;
 pub fn compact(alloc: Global, value: &Value) -> Result<Text, NoMemory>
     ensures text { IfOk result (λ text. has_float (view value.now) ≡ false → text ≡ compact_text (view value.now)) }
     ensures utf8 { IfOk result IsUtf8 }
-    ensures reads_back { IfOk result (λ text. depth (view value.now) ≤ max_depth → read_text text ≡ Some (view value.now)) }
+    ensures reads_back { IfOk result (λ text.
+        depth (view value.now) ≤ max_depth → read_text text ≡ Some (view value.now)) }
 {
     let text = value.to_string(alloc)?;
     Ok(Text::from_vec(text.into_bytes()))

@@ -1,5 +1,5 @@
-use Rattle.claim_map.proofs.Ranges.{given_after-sound}
+use Rattle.claim_map.proofs.Ranges.{ranges_after-sound}
 use Rattle.claim_map.proofs.laws.ranges_stay_sound.Goals as goal
 
 pub returns : goal.returns
-returns c registry given cell number wide sound = given_after-sound given sound registry cell number wide
+returns c registry ranges cell number wide sound = ranges_after-sound ranges sound registry cell number wide

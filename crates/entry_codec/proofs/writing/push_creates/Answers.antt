@@ -1,5 +1,5 @@
 use Rattle.std.proofs.Common.{length}
-use Rattle.entry_codec.specs.Grammar.{IsCreate}
+use Rattle.claim_types.specs.Bounds.{IsCreate}
 use Rattle.entry_codec.specs.Spelling.{create_bytes}
 use Rattle.entry_codec.proofs.Written.{pushed, holds_at}
 use Rattle.entry_codec.proofs.writing.push_creates.Goals as goal

@@ -1,5 +1,5 @@
 use Rattle.std.proofs.Common.{length}
-use Rattle.entry_codec.specs.Grammar.{IsKey}
+use Rattle.claim_types.specs.Bounds.{IsKey}
 use Rattle.entry_codec.specs.Spelling.{key_bytes}
 use Rattle.entry_codec.proofs.Written.{pushed, holds_at}
 use Rattle.entry_codec.proofs.writing.push_keys.Goals as goal

@@ -1,10 +1,13 @@
-use Rattle.std.proofs.Common.{◌≡◌, ◌++◌, ◌-◌, ◌&&◌, nat_eq, map, filter, take, drop, length}
+use Rattle.std.proofs.Common.{◌≡◌, ◌++◌, ◌≤◌, ◌&&◌, nat_eq, filter, length}
+use Rattle.std.specs.FinMap as fin
 use Rattle.claim_types.specs.declared.lease.LeaseId.{LeaseId}
 use Rattle.claim_map.specs.Pages.{is_above}
-use Rattle.lease_core.specs.declared.items.BegunItem.{BegunItem}
 use Rattle.lease_core.proofs.pages.leases_above.Given as goal
 
-abbrev pub invariant-loop-item : goal.invariant-loop-item
-invariant-loop-item l =
-    l.leases.items ++ take (l.most - length l.leases.items) (filter (λ (r : LeaseId). nat_eq r.cell l.cell && is_above l.last r) (map (λ (it : BegunItem). it.lease) (drop l.item-index l.begun)))
-    ≡ take l.most (filter (λ r. nat_eq r.cell l.cell && is_above l.last r) (map (λ it. it.lease) l.begun))
+abbrev pub invariant-loop-lease : goal.invariant-loop-lease
+invariant-loop-lease l = record {
+  next : (goal.iterator-loop-lease).can_next l.lease-iterator;
+  ends : (goal.iterator-loop-lease).is_finite l.lease-iterator;
+  told : l.leases.items ++ filter (λ (x : LeaseId). nat_eq x.cell l.cell && is_above l.last x) l.lease-iterator ≡ filter (λ x. nat_eq x.cell l.cell && is_above l.last x) (fin.keys l.open_leases);
+  few : length l.leases.items ≤ l.most;
+}

@@ -1,7 +1,7 @@
 use Rattle.std.proofs.lemmas.List.Elements.{All-push}
 use Rattle.claim_types.specs.declared.page.ClaimItem.{ClaimItem}
-use Rattle.message_json.specs.Bounds.{IsClaim}
-use Rattle.message_json.specs.ReplyReading.{claim_element}
+use Rattle.claim_types.specs.Bounds.{IsClaim}
+use Rattle.message_json.specs.ReplyReader.{claim_element}
 use Rattle.message_json.proofs.Each.{one_more}
 use Rattle.message_json.proofs.reply_reader.claim_elements.Goals as goal
 

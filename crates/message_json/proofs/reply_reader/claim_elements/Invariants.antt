@@ -1,9 +1,9 @@
 use Rattle.std.proofs.Common.{◌≡◌, drop}
 use Rattle.std.specs.List.{All}
 use Rattle.serde_json.specs.View.{items_view}
-use Rattle.message_json.specs.Bounds.{IsClaim}
+use Rattle.claim_types.specs.Bounds.{IsClaim}
 use Rattle.message_json.specs.Reading.{with_front, each}
-use Rattle.message_json.specs.ReplyReading.{claim_element}
+use Rattle.message_json.specs.ReplyReader.{claim_element}
 use Rattle.message_json.proofs.reply_reader.claim_elements.Given as goal
 
 abbrev pub invariant-loop-value : goal.invariant-loop-value

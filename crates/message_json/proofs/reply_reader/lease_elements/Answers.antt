@@ -1,7 +1,7 @@
 use Rattle.std.proofs.lemmas.List.Elements.{All-push}
 use Rattle.claim_types.specs.declared.lease.LeaseId.{LeaseId}
 use Rattle.claim_types.specs.Leases.{IsLease}
-use Rattle.message_json.specs.ReplyReading.{lease_element}
+use Rattle.message_json.specs.ReplyReader.{lease_element}
 use Rattle.message_json.proofs.Each.{one_more}
 use Rattle.message_json.proofs.reply_reader.lease_elements.Goals as goal
 

@@ -3,7 +3,7 @@ use Rattle.std.specs.List.{All}
 use Rattle.serde_json.specs.View.{items_view}
 use Rattle.claim_types.specs.Leases.{IsLease}
 use Rattle.message_json.specs.Reading.{with_front, each}
-use Rattle.message_json.specs.ReplyReading.{lease_element}
+use Rattle.message_json.specs.ReplyReader.{lease_element}
 use Rattle.message_json.proofs.reply_reader.lease_elements.Given as goal
 
 abbrev pub invariant-loop-value : goal.invariant-loop-value

@@ -1,9 +1,9 @@
 use Rattle.std.proofs.Common.{List, ℕ, sym, ◌∙◌, ap, subst}
 use Rattle.serde_json.specs.Read.{read}
 use Rattle.claim_types.specs.Writable.{IsWritableReply}
-use Rattle.message_json.specs.Bounds.{IsReply}
+use Rattle.claim_types.specs.MessageBounds.{IsReply}
 use Rattle.message_json.specs.Reading.{Gives}
-use Rattle.message_json.specs.ReplyReading.{of_read}
+use Rattle.message_json.specs.ReplyReader.{of_read}
 use Rattle.message_json.proofs.Utf8.{read_of-text, read_of-other}
 use Rattle.message_json.proofs.Writable.{if_ok_also, reply_writable}
 use Rattle.message_json.proofs.reply_reader.read_reply.Goals as goal

@@ -1,6 +1,6 @@
 use Rattle.std.proofs.Common.{◌≡◌, map, take}
 use Rattle.serde_json.specs.View.{view}
-use Rattle.message_json.specs.RequestTexts.{create_data}
+use Rattle.message_json.specs.RequestWriter.{create_data}
 use Rattle.message_json.proofs.request_writer.create_values.Given as goal
 
 abbrev pub invariant-loop-create : goal.invariant-loop-create

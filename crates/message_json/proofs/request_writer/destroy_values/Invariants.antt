@@ -1,6 +1,6 @@
 use Rattle.std.proofs.Common.{◌≡◌, map, take}
 use Rattle.serde_json.specs.View.{view}
-use Rattle.message_json.specs.RequestTexts.{destroy_data}
+use Rattle.message_json.specs.RequestWriter.{destroy_data}
 use Rattle.message_json.proofs.request_writer.destroy_values.Given as goal
 
 abbrev pub invariant-loop-key : goal.invariant-loop-key

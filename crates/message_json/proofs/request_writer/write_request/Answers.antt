@@ -1,4 +1,4 @@
-use Rattle.message_json.specs.RequestTexts.{request_text, request_data}
+use Rattle.message_json.specs.RequestWriter.{request_text, request_data}
 use Rattle.message_json.proofs.Written.{request_whole, request_shallow}
 use Rattle.serde_json.specs.View.{view}
 use Rattle.message_json.proofs.ReadBack.{text_written, read_again, request_again}

@@ -1,20 +1,12 @@
-use Rattle.std.proofs.Common.{◌≡◌, ◌≤◌, List, None, sym, ◌∙◌, ap, arith}
+use Rattle.std.proofs.Common.{◌≡◌, true, List, sym, subst}
 use Rattle.claim_types.specs.declared.cell.Range.{Range}
-use Rattle.claim_map.specs.Ranges.{given_as, next_number, last_end}
-use Rattle.claim_map.proofs.Ranges.{AreRanges-push, next-follows, next_is}
-use Rattle.cell_registry.proofs.Legal.{wide}
+use Rattle.claim_map.specs.Ranges.{follows}
+use Rattle.claim_map.proofs.Ranges.{AreRanges-push}
 use Rattle.cell_registry.proofs.ranges.Ranges.give.Goals as goal
 
-pub invariant_of-self-2 : goal.invariant_of-self-2
-invariant_of-self-2 c =
-    let next : c.next_number-next.result ≡ next_number c.self.inside.given.items c.in-Some.cell.now.id = c.next_number-next.ensures ∙ ap (λ (rs : List Range). next_number rs c.in-Some.cell.now.id) c.deref-2.ensures.value in
-    let last : c.last_end-last.result ≡ last_end c.self.inside.given.items = c.last_end-last.ensures.value ∙ ap last_end c.deref-3.ensures.value in
-    rw c.in_ok-push.ensures.items (AreRanges-push c.self.inside.given.items _ c.self.invariant (next-follows c.self.inside.given.items c.in-Some.cell.now.id c.next_number-next.result c.last_end-last.result c.in-Some.cell.now.width next last (wide c.in-Some.cell.now c.in-Some.ensures.legal) (omega arith)))
-
-pub returns-clause-asked : goal.returns-clause-asked
-returns-clause-asked c =
+pub invariant_of-self : goal.invariant_of-self
+invariant_of-self c =
     let given = c.self.inside.given.items in
-    let next : c.next_number-next.result ≡ next_number given c.in-Some.cell.now.id = c.next_number-next.ensures ∙ ap (λ (rs : List Range). next_number rs c.in-Some.cell.now.id) c.deref-2.ensures.value in
-    let none : given_as given c.in-Some.cell.now.id c.args.number ≡ None = sym (c.in_default-given_as.ensures.value ∙ ap (λ (rs : List Range). given_as rs c.in-Some.cell.now.id c.args.number) c.deref.ensures.value) in
-    let near : c.args.number ≤ next_number given c.in-Some.cell.now.id = omega arith in
-    (c.in-Some.ensures.id, next ∙ next_is given c.self.invariant c.in-Some.cell.now.id c.args.number c.requires none near)
+    let range = c.in_ok-asked.asked.range in
+    let next : follows given range ≡ true = subst (λ (rs : List Range). follows rs range ≡ true) (sym c.self.view_is) (c.in_ok-asked.ensures.follows c.if-asked.true) in
+    rw c.in_ok-push.ensures.items (AreRanges-push given range c.self.invariant next)

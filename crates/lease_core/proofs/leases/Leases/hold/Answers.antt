@@ -1,18 +1,13 @@
-use Rattle.std.proofs.Common.{◌≡◌, ◌∙◌, ap, arith}
+use Rattle.std.proofs.Common.{◌∙◌, ap}
+use Rattle.claim_types.specs.declared.key.ClaimKey.{ClaimKey}
 use Rattle.claim_map.specs.State.{LeaseState}
-use Rattle.lease_core.specs.Kept.{creates_of}
-use Rattle.lease_core.proofs.Named.{none_open}
+use Rattle.std.specs.FinSet as set
+use Rattle.lease_core.proofs.Wholes.{held_kept, more_rows_kept}
 use Rattle.lease_core.proofs.leases.Leases.hold.Goals as goal
 
+pub invariant_of-self-in_err-hold : goal.invariant_of-self-in_err-hold
+invariant_of-self-in_err-hold c = more_rows_kept c.self.inside c.self.invariant c.hold.new.self c.add.new.self _ c.in_err-hold.ensures.err c.in_ok-add.ensures.ok
+
 pub invariant_of-self-2 : goal.invariant_of-self-2
-invariant_of-self-2 c =
-    let kept = c.self.invariant in
-    let none : c.self.inside.creates ≡ 0 = kept.counted ∙ ap creates_of (none_open c.self.inside.begun.items kept.begun (ap (λ (s : LeaseState). s.begun) c.self.view_is ∙ c.requires)) in
-    record {
-      held = c.put.ensures.held;
-      begun = kept.begun;
-      done = kept.done;
-      counted = kept.counted;
-      room_to_hold = omega (arith, none, c.put.ensures.len, c.put.ensures.capacity, c.in_ok-reserve.ensures.ok, c.in_ok-reserve.ensures.len);
-      room_to_settle = kept.room_to_settle;
-    }
+invariant_of-self-2 c = held_kept c.self.inside c.self.invariant (ap (λ (s : LeaseState). s.open_leases) c.self.view_is ∙ c.requires) c.args.key c.args.holding c.hold.new.self c.add.new.self c.in_ok-hold.ensures.ok
+    (c.in_ok-add.ensures.ok ∙ ap (λ (k : ClaimKey). set.insert c.self.inside.rows (record { cell = c.args.holding.cell; bucket = c.args.key.bucket; row = c.args.holding.origin.row; key = k })) c.in_ok-copy.ensures)

@@ -1,0 +1,15 @@
+pub mod Nodes
+pub mod World
+pub mod Acts
+pub mod Files
+pub mod Stops
+pub mod Events
+pub mod Lives
+pub mod Facts
+pub mod Filed
+pub mod Proper
+pub mod Reopened
+pub mod Derived
+pub mod Schedules
+pub mod Examples
+pub mod Bounded

@@ -1,0 +1,5 @@
+pub mod Unrecorded
+pub mod Handling
+pub mod Appending
+pub mod Replaying
+pub mod Opened

@@ -1,0 +1,2 @@
+/// The file of the service.
+pub const SERVICE_FILE: u16 = 0;

@@ -1,0 +1,4 @@
+mod BaseEntries
+mod Segments
+mod Cuts
+mod Walk

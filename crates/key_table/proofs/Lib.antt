@@ -1,0 +1,4 @@
+mod Tables
+mod Joins
+mod Parts
+pub mod Picked

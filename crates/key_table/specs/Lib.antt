@@ -1,0 +1,4 @@
+pub mod Texts
+pub mod Joined
+pub mod Picked
+pub mod Parts

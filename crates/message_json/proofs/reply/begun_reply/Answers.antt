@@ -1,4 +1,0 @@
-use Rattle.message_json.proofs.reply.begun_reply.Goals as goal
-
-pub returns : goal.returns
-returns c = rw (← c.lease_text.ensures) c.begun.ensures

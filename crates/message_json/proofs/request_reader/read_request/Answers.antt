@@ -1,0 +1,20 @@
+use Rattle.std.proofs.Common.{List, ℕ, sym, ◌∙◌, ap, subst}
+use Rattle.serde_json.specs.Read.{read}
+use Rattle.claim_types.specs.Writable.{IsWritableRequest}
+use Rattle.claim_types.specs.MessageBounds.{IsRequest}
+use Rattle.message_json.specs.Reading.{Gives}
+use Rattle.message_json.specs.RequestReader.{of_read}
+use Rattle.message_json.proofs.Utf8.{read_of-text, read_of-other}
+use Rattle.message_json.proofs.Writable.{if_ok_also, request_writable}
+use Rattle.message_json.proofs.request_reader.read_request.Goals as goal
+
+pub returns-in-Ok-clause-value : goal.returns-in-Ok-clause-value
+returns-in-Ok-clause-value c =
+    let text = c.in-Ok.ensures.cases in
+    subst (Gives c.request_of_text.result) (ap (λ (bytes : List ℕ). of_read (read bytes)) text.0 ∙ sym (read_of-text of_read c.args.body.now text.1)) c.request_of_text.ensures.value
+
+pub returns-in-Ok-clause-writable : goal.returns-in-Ok-clause-writable
+returns-in-Ok-clause-writable c = if_ok_also IsRequest IsWritableRequest c.request_of_text.result request_writable c.request_of_text.ensures.bounds
+
+pub returns-in-Err-clause-value : goal.returns-in-Err-clause-value
+returns-in-Err-clause-value c = read_of-other of_read c.args.body.now c.in-Err.ensures.cases.0

@@ -1,0 +1,16 @@
+pub mod Fresh
+pub mod Moved
+pub mod Kept
+pub mod Answer
+pub mod Between
+pub mod Walking
+pub mod Refusals
+pub mod Indexed
+pub mod Answers
+pub mod Known
+pub mod Paths
+pub mod Unique
+pub mod Follows
+pub mod Texts
+pub mod Joined
+pub mod Listed

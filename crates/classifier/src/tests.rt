@@ -1,3 +1,8 @@
+ghost use Rattle.std.specs.Prelude.{◌≡◌, IfOk};
+ghost use Rattle.std.specs.FinMap as map;
+ghost use Rattle.claim_types.specs.Bounds.{IsCell};
+ghost use Rattle.claim_map.specs.Bounds.{AreHeld};
+
 use crate::classify;
 use cell_registry::Registry;
 use claim_types::{
@@ -18,14 +23,15 @@ prefix = 'cell-2-'
 width = 1000
 ";
 
-fn route(alloc: Global, value: &[u8]) -> Result<ClaimKey, NoMemory> {
-    Ok(ClaimKey {
-        bucket: Bucket::Route,
-        value: Text::from_slice(alloc, value)?,
-    })
-}
-
-fn hold(alloc: Global, leases: &mut Leases, value: &[u8], cell: u16) -> Result<(), NoMemory> {
+// A route is held by a group of this cell.
+#[tactic(none)]
+fn hold(alloc: Global, leases: &mut Leases, value: &[u8], cell: u16) -> Result<(), Fail>
+    requires cell { IsCell cell }
+    requires empty { leases.old.open_leases ≡ map.empty }
+    requires held { AreHeld leases.old.holder }
+    ensures empty { leases.new.open_leases ≡ map.empty }
+    ensures held { AreHeld leases.new.holder }
+{
     let holding = Holding {
         cell,
         subject: Subject {
@@ -37,8 +43,19 @@ fn hold(alloc: Global, leases: &mut Leases, value: &[u8], cell: u16) -> Result<(
             row: 2,
         },
     };
-    leases.hold(route(alloc, value)?, holding)?;
+    let key = ClaimKey::read(alloc, Bucket::Route, value)?;
+    leases.hold(key, holding)?;
     Ok(())
+}
+
+// Cell 7 holds `acme`, and cell 2 `acme/x/y`.
+fn some_routes(alloc: Global) -> Result<Leases, Fail>
+    ensures { IfOk result (λ leases. AreHeld leases.holder) }
+{
+    let mut leases = Leases::new(alloc);
+    hold(alloc, &mut leases, b"acme", 7)?;
+    hold(alloc, &mut leases, b"acme/x/y", 2)?;
+    Ok(leases)
 }
 
 fn path_class(
@@ -46,7 +63,9 @@ fn path_class(
     leases: &Leases,
     registry: &Registry,
     path: &[u8],
-) -> Result<Class, NoMemory> {
+) -> Result<Class, NoMemory>
+    requires { AreHeld leases.now.holder }
+{
     let text = Text::from_slice(alloc, path)?;
     Ok(classify(leases, registry, &Question::Path { text }))
 }
@@ -58,9 +77,7 @@ fn each_question_has_its_class(rt: HostRuntime) -> Result<(), Fail> {
         assert!(rt; false);
         return Ok(());
     };
-    let mut leases = Leases::new(alloc);
-    hold(alloc, &mut leases, b"acme", 7)?;
-    hold(alloc, &mut leases, b"acme/x/y", 2)?;
+    let leases = some_routes(alloc)?;
     let found = |id| Class::Cell { id };
     assert_eq!(rt; classify(&leases, &registry, &Question::First), found(7));
     assert_eq!(rt;
@@ -76,7 +93,7 @@ fn each_question_has_its_class(rt: HostRuntime) -> Result<(), Fail> {
     };
     assert_eq!(rt; classify(&leases, &registry, &session), found(2));
     let claim = Question::Claim {
-        key: route(alloc, b"acme/x")?,
+        key: ClaimKey::read(alloc, Bucket::Route, b"acme/x")?,
     };
     assert_eq!(rt; classify(&leases, &registry, &claim), Class::NotFound);
     let rows = [

@@ -2,7 +2,7 @@ ghost use Rattle.std.specs.Prelude.{◌≡◌, ◌⊎◌, None, IsSome, OnOk, On
 ghost use Rattle.std.specs.FinMap as map;
 ghost use Rattle.key_table.specs.Parts.{no_keys, with_name, without_name, with_holder, without_key};
 
-use crate::buckets::Buckets;
+use crate::key_map::KeyMap;
 use claim_types::{Bucket, ClaimKey, Copied, Holding, LeaseId, NoMemory};
 use std::alloc::Global;
 use std::marker::Model;
@@ -19,7 +19,7 @@ pub struct KeyState {
 pub struct Keys {
     // For the keys that are copied.
     alloc: Global,
-    states: Buckets,
+    states: KeyMap<KeyState>,
 }
 
 impl Model for Keys {
@@ -39,7 +39,7 @@ impl Keys {
     {
         Keys {
             alloc,
-            states: Buckets::new(alloc),
+            states: KeyMap::new(alloc),
         }
     }
 

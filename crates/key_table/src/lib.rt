@@ -1,5 +1,5 @@
-//! What is known of claim keys, at the cost of one hash a look-up: who holds a key, and which open
-//! lease names it.
+//! Maps from claim keys, at the cost of one hash a look-up, and what the service knows of keys in one:
+//! who holds a key, and which open lease names it.
 //!
 //! ```text
 //! let mut keys = Keys::new(alloc);
@@ -8,17 +8,19 @@
 //! keys.holding(Bucket::Route, b"acme");     // Some(holding): no key is built for it
 //! ```
 //!
-//! Promised: contracts see [`Keys`] as two finite maps, of the holders and of the naming leases, and
+//! Promised: contracts see a [`KeyMap`] as a finite map in the order of keys, and each call as a look-up,
+//! an insertion or a removal in it. They see [`Keys`] as two finite maps, of the holders and of the naming leases, and
 //! each call as an insertion or a removal in them. A key that nobody holds and no lease names has no
-//! entry. Only [`Keys::name`] and [`Keys::hold`] take memory, and after want of it both maps are as
-//! they were.
+//! entry. Only [`KeyMap::put`], [`Keys::name`] and [`Keys::hold`] take memory, and after want of it the
+//! maps are as they were. A caller of [`KeyMap::change`] and [`Keys::claim`] keeps that the key is there.
 //!
 //! It stands on one hash map for each bucket, over the bytes of the keys' values, whose hasher has a
 //! fixed seed: values that are chosen to collide make look-ups slow, and never wrong.
 #![tactic(auto)]
 
-mod buckets;
+mod key_map;
 mod keys;
 mod table;
 
+pub use key_map::KeyMap;
 pub use keys::{KeyState, Keys};

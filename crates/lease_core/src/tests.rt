@@ -1,7 +1,10 @@
+ghost use Rattle.std.specs.Prelude.{◌≡◌};
+ghost use Rattle.std.specs.FinMap as map;
+
 use crate::*;
 use claim_types::{
-    Bucket, ClaimKey, Copied, Create, Holding, How, Items, Kind, LeaseId, NoMemory, OPEN_LEASES,
-    Operations, Origin, Range, Subject, Text,
+    Bucket, ClaimKey, Copied, Create, GREATEST_IDENTIFIER, Holding, How, Items, Kind, LeaseId,
+    NoMemory, OPEN_LEASES, Operations, Origin, Range, Subject, Text,
 };
 use std::alloc::Global;
 use std::test::Fail;
@@ -270,37 +273,54 @@ fn numbered(alloc: Global, n: u64) -> Result<String, NoMemory> {
     Ok(format!(in alloc; "r{n:06}")?)
 }
 
+// Has the route of this number held by its own row.
+fn hold_numbered(alloc: Global, leases: &mut Leases, n: u64) -> Result<(), NoMemory>
+    requires { leases.old.open_leases ≡ map.empty }
+    ensures { leases.new.open_leases ≡ map.empty }
+{
+    let route = numbered(alloc, n)?;
+    leases.hold(key(alloc, route.as_bytes())?, group(n))?;
+    Ok(())
+}
+
 // A state in which the routes from 1 to this number are held, each by its own row.
-fn holding(alloc: Global, number: u64) -> Result<Leases, Fail> {
+fn holding(alloc: Global, number: u64) -> Result<Leases, NoMemory> {
     let mut leases = Leases::new(alloc);
-    for n in 1..number + 1 {
-        let route = numbered(alloc, n)?;
-        leases.hold(key(alloc, route.as_bytes())?, group(n))?;
+    for n in 0..number {
+        hold_numbered(alloc, &mut leases, n + 1)?;
     }
     Ok(leases)
+}
+
+// How many claims a page behind this row lists, and whether there are more.
+fn listed(alloc: Global, leases: &Leases, after: u64) -> Result<(usize, bool), NoMemory> {
+    let page = leases.claims_in(alloc, 1, Bucket::Route, 1, GREATEST_IDENTIFIER, after)?;
+    Ok((page.items.len(), page.more))
 }
 
 #[test]
 fn lists_a_page_and_then_the_rest(rt: HostRuntime) -> Result<(), Fail> {
     let alloc = rt.alloc();
     let leases = holding(alloc, 65)?;
-    let first = leases.claims_in(alloc, 1, Bucket::Route, 1, 65, 0)?;
-    assert_eq!(rt; first.items.len(), 64);
-    assert!(rt; first.more);
-    let rest = leases.claims_in(alloc, 1, Bucket::Route, 1, 65, 64)?;
-    assert_eq!(rt; rest.items.len(), 1);
-    assert!(rt; !rest.more);
+    let (first, goes_on) = listed(alloc, &leases, 0)?;
+    assert!(rt; first == 64 && goes_on);
+    let (rest, goes_on) = listed(alloc, &leases, 64)?;
+    assert!(rt; rest == 1 && !goes_on);
     Ok(())
+}
+
+// Whether the route of this number is held by its own row.
+fn is_held(alloc: Global, leases: &Leases, n: u64) -> Result<bool, NoMemory> {
+    let route = numbered(alloc, n)?;
+    Ok(leases.holder_of(Bucket::Route, route.as_bytes()) == Some(group(n)))
 }
 
 #[test]
 fn finds_each_of_many_routes(rt: HostRuntime) -> Result<(), Fail> {
     let alloc = rt.alloc();
     let leases = holding(alloc, 200_000)?;
-    for n in 1..200_001 {
-        let route = numbered(alloc, n)?;
-        let holder = leases.holder_of(Bucket::Route, route.as_bytes());
-        assert_eq!(rt; holder, Some(group(n)));
+    for n in 0..200_000 {
+        assert!(rt; is_held(alloc, &leases, n + 1)?);
     }
     Ok(())
 }

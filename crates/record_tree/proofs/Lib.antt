@@ -18,6 +18,4 @@ pub mod After
 pub mod May
 pub mod Applied
 pub mod Listed
-pub mod Tables
-pub mod Joins
 pub mod Within

@@ -11,6 +11,4 @@ pub mod Known
 pub mod Paths
 pub mod Unique
 pub mod Follows
-pub mod Texts
-pub mod Joined
 pub mod Listed

@@ -5,15 +5,15 @@ ghost use Rattle.claim_types.specs.declared.record.Record.{Record as TheRecord};
 ghost use Rattle.record_tree.specs.Unique.{index_after, AreFree, IsSame};
 
 use crate::index::follow;
-use crate::key_index::KeyIndex;
 use claim_types::{NoMemory, Operations, Record, Text};
+use key_table::KeyMap;
 use std::alloc::Global;
 
 /// Puts a record behind the others.
 pub fn put_record(
     alloc: Global,
     records: &mut Vec<Record>,
-    index: &mut KeyIndex<u64>,
+    index: &mut KeyMap<u64>,
     ops: &Operations,
     item: Record,
 ) -> Result<(), NoMemory>
@@ -33,7 +33,7 @@ pub fn put_record(
 pub fn rename_record(
     alloc: Global,
     records: &mut Vec<Record>,
-    index: &mut KeyIndex<u64>,
+    index: &mut KeyMap<u64>,
     ops: &Operations,
     at: usize,
     name: Text,
@@ -54,7 +54,7 @@ pub fn rename_record(
 pub fn remove_record(
     alloc: Global,
     records: &mut Vec<Record>,
-    index: &mut KeyIndex<u64>,
+    index: &mut KeyMap<u64>,
     ops: &Operations,
     at: usize,
 ) -> Result<(), NoMemory>

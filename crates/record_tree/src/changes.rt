@@ -12,7 +12,6 @@ ghost use Rattle.record_tree.specs.Indexed.{IsWhole};
 ghost use Rattle.record_tree.specs.Kept.{AreAbove, NoRow};
 ghost use Rattle.record_tree.specs.Refusals.{create_refusal, rename_refusal, remove_refusal, same_name};
 
-use crate::key_index::KeyIndex;
 use crate::places::place_of;
 use crate::routes::{claim_at, lowered, route};
 use crate::rules::{
@@ -20,9 +19,10 @@ use crate::rules::{
 };
 use crate::walk::rename_operations;
 use claim_types::{ClaimKey, Create, Creates, Keys, Kind, NoMemory, Operations, Record, Rule};
+use key_table::KeyMap;
 use std::alloc::Global;
 
-type Index = KeyIndex<u64>;
+type Index = KeyMap<u64>;
 
 fn create_rules(
     alloc: Global,

@@ -2,11 +2,11 @@
 ghost use Rattle.std.specs.Prelude.{◌≡◌, OnOk, OnErr, map as each};
 ghost use Rattle.record_tree.specs.Unique.{without, with_claims, index_after, AreFree, IsSame, IsSameBut};
 
-use crate::key_index::KeyIndex;
 use claim_types::{ClaimKey, Copied, Create, NoMemory, Operations};
+use key_table::KeyMap;
 use std::alloc::Global;
 
-fn take_keys(index: &mut KeyIndex<u64>, keys: &[ClaimKey])
+fn take_keys(index: &mut KeyMap<u64>, keys: &[ClaimKey])
     ensures { index.new ≡ without keys.now index.old }
 {
     for key in keys {
@@ -14,7 +14,7 @@ fn take_keys(index: &mut KeyIndex<u64>, keys: &[ClaimKey])
     }
 }
 
-fn take_claims(index: &mut KeyIndex<u64>, claims: &[Create])
+fn take_claims(index: &mut KeyMap<u64>, claims: &[Create])
     ensures { index.new ≡ without (each (λ c. c.key) claims.now) index.old }
 {
     for claim in claims {
@@ -22,7 +22,7 @@ fn take_claims(index: &mut KeyIndex<u64>, claims: &[Create])
     }
 }
 
-fn put_claims(alloc: Global, index: &mut KeyIndex<u64>, claims: &[Create]) -> Result<(), NoMemory>
+fn put_claims(alloc: Global, index: &mut KeyMap<u64>, claims: &[Create]) -> Result<(), NoMemory>
     ensures ok { OnOk result (index.new ≡ with_claims claims.now index.old) }
     ensures err { OnErr result (IsSameBut claims.now index.old index.new) }
 {
@@ -34,7 +34,7 @@ fn put_claims(alloc: Global, index: &mut KeyIndex<u64>, claims: &[Create]) -> Re
 }
 
 /// The index after these operations, of which no created key is claimed before.
-pub fn follow(alloc: Global, index: &mut KeyIndex<u64>, ops: &Operations) -> Result<(), NoMemory>
+pub fn follow(alloc: Global, index: &mut KeyMap<u64>, ops: &Operations) -> Result<(), NoMemory>
     requires { AreFree ops.now.creates index.old }
     ensures ok { OnOk result (index.new ≡ index_after ops.now index.old) }
     ensures err { OnErr result (IsSame index.old index.new) }

@@ -29,7 +29,6 @@
 mod apply;
 mod changes;
 mod index;
-mod key_index;
 mod kinds;
 mod listing;
 mod paths;
@@ -37,7 +36,6 @@ mod places;
 mod ranges;
 mod routes;
 mod rules;
-mod table;
 mod tree;
 mod walk;
 

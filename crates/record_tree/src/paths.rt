@@ -4,8 +4,8 @@ ghost use Rattle.std.specs.FinMap as map;
 ghost use Rattle.claim_types.specs.declared.limits.TheConstants.{KEY_BYTES as MOST};
 ghost use Rattle.record_tree.specs.Paths.{EndsSegment, IsLongest, route_key};
 
-use crate::key_index::KeyIndex;
 use claim_types::{Bucket, KEY_BYTES};
+use key_table::KeyMap;
 
 fn front(path: &[u8], end: usize) -> &[u8]
     requires { end ≤ length path.now }
@@ -15,7 +15,7 @@ fn front(path: &[u8], end: usize) -> &[u8]
 }
 
 // The record of the front of this many bytes, where it ends a segment and is a route.
-fn at_front(index: &KeyIndex<u64>, path: &[u8], end: usize) -> Option<u64>
+fn at_front(index: &KeyMap<u64>, path: &[u8], end: usize) -> Option<u64>
     requires { end ≤ length path.now }
     ensures some { (id : ℕ) → result ≡ Some id → EndsSegment path.now end × (map.get index.now (route_key (take end path.now)) ≡ Some id) }
     ensures none { result ≡ None → EndsSegment path.now end → map.get index.now (route_key (take end path.now)) ≡ None }
@@ -30,7 +30,7 @@ fn at_front(index: &KeyIndex<u64>, path: &[u8], end: usize) -> Option<u64>
 
 /// The record of the longest route that is the path or is followed in it by a slash, where each
 /// route is short enough for a key.
-pub fn holder_of(index: &KeyIndex<u64>, path: &[u8]) -> Option<u64>
+pub fn holder_of(index: &KeyMap<u64>, path: &[u8]) -> Option<u64>
     requires { (value : List ℕ) → MOST < length value → map.get index.now (route_key value) ≡ None }
     ensures { IsLongest (λ value. map.get index.now (route_key value)) path.now (length path.now + 1) result }
 {

@@ -10,13 +10,13 @@ ghost use Rattle.record_tree.specs.Answer.{Refuses};
 ghost use Rattle.record_tree.specs.Refusals.{any_refused as some_refused, first_taken, spent_at};
 ghost use Rattle.claim_types.specs.declared.rule.Rule.TheVariants.{WrongKind, HasChildren};
 
-use crate::key_index::KeyIndex;
 use crate::kinds::is_named;
 use crate::places::place_of;
 use crate::routes::lowered;
 use claim_types::{
     ClaimKey, Copied, Create, KeyFault, Kind, NoMemory, OPERATIONS, Operations, Record, Rule,
 };
+use key_table::KeyMap;
 use std::alloc::Global;
 
 fn may_stand_below(kind: Kind, above: Kind) -> bool
@@ -128,7 +128,7 @@ pub fn renamed(alloc: Global, old: &[u8], new: &[u8]) -> Result<(), Rule>
 }
 
 /// Whether no record claims a created key.
-pub fn untaken(alloc: Global, index: &KeyIndex<u64>, creates: &[Create]) -> Result<(), Rule>
+pub fn untaken(alloc: Global, index: &KeyMap<u64>, creates: &[Create]) -> Result<(), Rule>
     ensures { Refuses result (first_taken index.now creates.now) }
 {
     for create in creates {

@@ -15,7 +15,6 @@ ghost use Rattle.record_tree.specs.Refusals.{claimant};
 
 use crate::apply::{put_record, remove_record, rename_record};
 use crate::changes::{create, remove, rename};
-use crate::key_index::KeyIndex;
 use crate::listing;
 use crate::paths::holder_of;
 use crate::places::place_of;
@@ -23,6 +22,7 @@ use crate::ranges::id_at;
 use claim_types::{
     Change, ClaimItems, ClaimKey, Copied, NoMemory, Operations, Range, Record, Rule, Text,
 };
+use key_table::KeyMap;
 use std::alloc::Global;
 use std::marker::Model;
 
@@ -30,7 +30,7 @@ use std::marker::Model;
 #[derive(Drop)]
 pub struct Tree {
     records: Vec<Record>,
-    index: KeyIndex<u64>,
+    index: KeyMap<u64>,
     used: u64,
     version: u64,
 }
@@ -63,7 +63,7 @@ impl Tree {
     {
         Tree {
             records: Vec::new(alloc),
-            index: KeyIndex::new(alloc),
+            index: KeyMap::new(alloc),
             used,
             version,
         }

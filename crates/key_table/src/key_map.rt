@@ -1,5 +1,4 @@
-//! The record that claims each key, found by the bytes of the key.
-ghost use Rattle.std.specs.Prelude.{◌≡◌, OnOk, OnErr};
+ghost use Rattle.std.specs.Prelude.{◌≡◌, IsSome, OnOk, OnErr};
 ghost use Rattle.std.specs.FinMap as map;
 
 use crate::table::Table;
@@ -10,7 +9,7 @@ use std::marker::Model;
 /// A value for each of some keys, in a hash table for each bucket. Contracts see it as a finite map in
 /// the order of keys.
 #[derive(Drop)]
-pub struct KeyIndex<V: Copy> {
+pub struct KeyMap<V: Copy> {
     organization_paths: Table<V>,
     routes: Table<V>,
     addresses: Table<V>,
@@ -18,25 +17,25 @@ pub struct KeyIndex<V: Copy> {
     pages_domains: Table<V>,
 }
 
-impl<V: Copy> Model for KeyIndex<V> {
+impl<V: Copy> Model for KeyMap<V> {
     ghost use Rattle.std.specs.FinMap.{FinMap, code};
     ghost use Rattle.claim_types.specs.Order.{key_cmp};
     ghost use Rattle.claim_types.specs.contracts.key.ClaimKey as key_type;
-    ghost use Rattle.record_tree.specs.Joined.{joined};
+    ghost use Rattle.key_table.specs.Joined.{five, joined};
 
     ghost Value = { FinMap key_cmp V };
 
     ghost coded = { code key_type.the_row.coded V.code };
 
-    ghost view = { λ s. joined (record { organization_paths = s.organization_paths; routes = s.routes; addresses = s.addresses; ssh_keys = s.ssh_keys; pages_domains = s.pages_domains }) };
+    ghost view = { λ s. joined (five s.organization_paths s.routes s.addresses s.ssh_keys s.pages_domains) };
 }
 
-impl<V: Copy> KeyIndex<V> {
+impl<V: Copy> KeyMap<V> {
     /// It takes no memory.
     pub fn new(alloc: Global) -> Self
         ensures { result ≡ map.empty }
     {
-        KeyIndex {
+        KeyMap {
             organization_paths: Table::new(alloc),
             routes: Table::new(alloc),
             addresses: Table::new(alloc),
@@ -71,6 +70,20 @@ impl<V: Copy> KeyIndex<V> {
             Bucket::Address => self.addresses.put(text, state),
             Bucket::SshKey => self.ssh_keys.put(text, state),
             Bucket::PagesDomain => self.pages_domains.put(text, state),
+        }
+    }
+
+    /// Gives a key that is there another value, which takes no memory.
+    pub fn change(&mut self, bucket: Bucket, value: &[u8], state: V)
+        requires { IsSome (map.get self.old (record { bucket = bucket; value = value.now })) }
+        ensures { self.new ≡ map.insert self.old (record { bucket = bucket; value = value.now }) state }
+    {
+        match bucket {
+            Bucket::OrganizationPath => self.organization_paths.change(value, state),
+            Bucket::Route => self.routes.change(value, state),
+            Bucket::Address => self.addresses.change(value, state),
+            Bucket::SshKey => self.ssh_keys.change(value, state),
+            Bucket::PagesDomain => self.pages_domains.change(value, state),
         }
     }
 

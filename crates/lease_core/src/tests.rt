@@ -85,8 +85,14 @@ fn some_leases(alloc: Global) -> Result<Leases, Fail> {
     Ok(leases)
 }
 
-fn verdict(leases: &Leases, attempt: u64, operations: Operations) -> Verdict {
-    leases.judge(&GIVEN, lease(attempt), &operations)
+// Whether the verdict on a begin of these operations is this.
+fn judges(leases: &Leases, attempt: u64, operations: Operations, expected: Verdict) -> bool {
+    leases.judge(&GIVEN, lease(attempt), &operations) == expected
+}
+
+// Whether the begin is refused so.
+fn refuses(leases: &Leases, attempt: u64, operations: Operations, reason: Refusal) -> bool {
+    judges(leases, attempt, operations, Verdict::Refused(reason))
 }
 
 fn commit(leases: &mut Leases, attempt: u64) -> Result<bool, CommitFault> {
@@ -101,21 +107,14 @@ fn rollback(leases: &mut Leases, attempt: u64) -> Result<bool, RollbackFault> {
 fn looks_at_the_lease_before_its_operations(rt: HostRuntime) -> Result<(), Fail> {
     let alloc = rt.alloc();
     let leases = some_leases(alloc)?;
-    let committed = Refusal::Settled {
-        how: How::Committed,
-    };
-    let rolled_back = Refusal::Settled {
-        how: How::RolledBack,
-    };
-    let other = Refusal::OtherOperations;
+    let how = How::Committed;
     let same = creating(alloc, b"leased", 6)?;
-    let none = no_operations(alloc);
-    assert_eq!(rt; verdict(&leases, 1, same), Verdict::Refused(committed));
-    assert_eq!(rt; verdict(&leases, 2, none), Verdict::Refused(rolled_back));
+    assert!(rt; refuses(&leases, 1, same, Refusal::Settled { how }));
+    let how = How::RolledBack;
+    assert!(rt; refuses(&leases, 2, no_operations(alloc), Refusal::Settled { how }));
     let same = creating(alloc, b"leased", 6)?;
-    let none = no_operations(alloc);
-    assert_eq!(rt; verdict(&leases, 3, same), Verdict::Again);
-    assert_eq!(rt; verdict(&leases, 3, none), Verdict::Refused(other));
+    assert!(rt; judges(&leases, 3, same, Verdict::Again));
+    assert!(rt; refuses(&leases, 3, no_operations(alloc), Refusal::OtherOperations));
     Ok(())
 }
 
@@ -131,24 +130,14 @@ fn refuses_operations_before_it_looks_at_keys(rt: HostRuntime) -> Result<(), Fai
     let alloc = rt.alloc();
     let leases = some_leases(alloc)?;
     let none = Refusal::NoneOrTooMany { n: 0 };
+    assert!(rt; refuses(&leases, 4, no_operations(alloc), none));
     let too_many = Refusal::NoneOrTooMany { n: 65 };
+    assert!(rt; refuses(&leases, 4, many(alloc, 65)?, too_many));
     let twice = Refusal::Twice { index: 1 };
+    assert!(rt; refuses(&leases, 4, creating_twice(alloc)?, twice));
     let foreign = Refusal::ForeignId { id: 101 };
-    assert_eq!(rt;
-        verdict(&leases, 4, no_operations(alloc)),
-        Verdict::Refused(none)
-    );
-    assert_eq!(rt;
-        verdict(&leases, 4, many(alloc, 65)?),
-        Verdict::Refused(too_many)
-    );
-    assert_eq!(rt;
-        verdict(&leases, 4, creating_twice(alloc)?),
-        Verdict::Refused(twice)
-    );
-    let operations = creating(alloc, b"held", 101)?;
-    assert_eq!(rt; verdict(&leases, 4, operations), Verdict::Refused(foreign));
-    assert_eq!(rt; verdict(&leases, 4, many(alloc, 64)?), Verdict::Fresh);
+    assert!(rt; refuses(&leases, 4, creating(alloc, b"held", 101)?, foreign));
+    assert!(rt; judges(&leases, 4, many(alloc, 64)?, Verdict::Fresh));
     Ok(())
 }
 
@@ -157,20 +146,15 @@ fn refuses_keys_in_other_hands(rt: HostRuntime) -> Result<(), Fail> {
     let alloc = rt.alloc();
     let leases = some_leases(alloc)?;
     let owned = Refusal::Owned { index: 0, cell: 1 };
+    assert!(rt; refuses(&leases, 4, creating(alloc, b"held", 1)?, owned));
+    let by = lease(3);
     let leased = Refusal::Leased {
         index: 0,
-        lease: lease(3),
+        lease: by,
     };
+    assert!(rt; refuses(&leases, 4, creating(alloc, b"leased", 1)?, leased));
     let not_owned = Refusal::NotOwned { index: 0 };
-    let operations = creating(alloc, b"held", 1)?;
-    assert_eq!(rt; verdict(&leases, 4, operations), Verdict::Refused(owned));
-    let operations = creating(alloc, b"leased", 1)?;
-    assert_eq!(rt; verdict(&leases, 4, operations), Verdict::Refused(leased));
-    let operations = destroying(alloc, b"free")?;
-    assert_eq!(rt;
-        verdict(&leases, 4, operations),
-        Verdict::Refused(not_owned)
-    );
+    assert!(rt; refuses(&leases, 4, destroying(alloc, b"free")?, not_owned));
     Ok(())
 }
 
@@ -179,14 +163,11 @@ fn opens_only_so_many(rt: HostRuntime) -> Result<(), Fail> {
     let alloc = rt.alloc();
     let mut leases = Leases::new(alloc);
     for n in 0..OPEN_LEASES {
-        let operations = creating(alloc, &n.to_be_bytes(), 1)?;
-        let fresh = leases.begin(&GIVEN, lease(n), operations)?;
-        assert_eq!(rt; fresh, Verdict::Fresh);
+        leases.begin(&GIVEN, lease(n), creating(alloc, &n.to_be_bytes(), 1)?)?;
     }
-    assert_eq!(rt; leases.open_number(), 4_096);
+    assert!(rt; leases.open_number() == 4_096);
     let operations = creating(alloc, b"one more", 1)?;
-    let verdict = leases.judge(&GIVEN, lease(OPEN_LEASES), &operations);
-    assert_eq!(rt; verdict, Verdict::Refused(Refusal::TooManyOpen));
+    assert!(rt; refuses(&leases, OPEN_LEASES, operations, Refusal::TooManyOpen));
     Ok(())
 }
 

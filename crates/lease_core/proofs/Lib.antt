@@ -12,3 +12,4 @@ mod Gathering
 mod Paging
 mod First
 mod Parting
+mod InOrder

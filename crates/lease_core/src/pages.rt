@@ -92,8 +92,8 @@ fn lists(listing: &Listing, key: &ClaimKey, holding: &Holding) -> bool
         && listing.after < row
 }
 
-// Whether this is the place of its key, where the key is held so.
-fn is_place(place: &RowKey, holding: &Holding) -> bool
+/// Whether this is the place of its key, where the key is held so.
+pub fn is_place(place: &RowKey, holding: &Holding) -> bool
     ensures { result ≡ is_its_place place.now holding.now }
 {
     place.cell == holding.cell

@@ -13,3 +13,4 @@ mod Paging
 mod First
 mod Parting
 mod InOrder
+mod LeasePages

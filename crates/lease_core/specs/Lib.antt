@@ -5,3 +5,4 @@ pub mod Lists
 pub mod Gathered
 pub mod ByRow
 pub mod Outcomes
+pub mod Listed

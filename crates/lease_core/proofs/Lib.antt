@@ -12,3 +12,5 @@ mod Gathering
 mod Paging
 mod First
 mod Parting
+mod InOrder
+mod LeasePages

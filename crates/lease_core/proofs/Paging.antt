@@ -205,5 +205,5 @@ pub from_place : (least : RowKey) (rows : List RowKey) → filter (range_contain
 from_place least rows = λ i. filter (λ q. (and_true (is_le (row_block.ghosts.cmp least q)) ∙ ap (λ (R : RowKey → RowKey → Ordering). is_le (R least q)) row_order) i) rows
 
 -- the end of a walk
-pub walked : (most : ℕ) (found all : List ClaimItem) → found ++ [] ≡ all → length found ≤ most → found ≡ take most all
+pub walked : {A : Type 0} (most : ℕ) (found all : List A) → found ++ [] ≡ all → length found ≤ most → found ≡ take most all
 walked most found all is few = sym (take_all most found few) ∙ ap (take most) (sym (append-nil found) ∙ is)

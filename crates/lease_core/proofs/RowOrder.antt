@@ -65,7 +65,7 @@ abbrev bare : Bucket → ClaimKey
 bare c = record { bucket = c; value = [] }
 
 -- buckets with one number are one: keys of no bytes would tie
-buckets_exact : (a b : Bucket) → nat_cmp (bucket_number a) (bucket_number b) ≡ Equal → a ≡ b
+pub buckets_exact : (a b : Bucket) → nat_cmp (bucket_number a) (bucket_number b) ≡ Equal → a ≡ b
 buckets_exact a b h =
     let keys : bare a ≡ bare b = keys_exact (bare a) (bare b) (ap (λ o. ordering_then o (slice_cmp nat_cmp [] [])) h) in
     ap (λ (k : ClaimKey). k.bucket) keys

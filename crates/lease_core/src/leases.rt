@@ -6,8 +6,10 @@ ghost use Rattle.claim_types.specs.declared.verdict.Verdict.TheVariants.{Fresh};
 ghost use Rattle.claim_map.specs.Verdict.{verdict_of, lease_naming, open_count};
 ghost use Rattle.claim_map.specs.Pages.{lease_page, claim_page};
 ghost use Rattle.claim_map.specs.Step.{with_lease, after_commit, after_rollback};
+ghost use Rattle.lease_core.specs.ByRow.{ArePlacesOf};
 ghost use Rattle.lease_core.specs.Outcomes.{IsBegin, begin_outcome, commit_answer, IsRollback, rollback_outcome, hold_outcome, settle_outcome, ArePartsOf};
 
+use crate::by_row::ByRow;
 use crate::holders::{claim_all, enter, forget, release_all};
 use crate::lease_map::LeaseMap;
 use crate::open_numbers::{CellNumbers, lower, one_more};
@@ -279,6 +281,13 @@ impl Leases {
         )?;
         let (items, more) = pages::page_of(found, CLAIMS_A_PAGE as usize);
         Ok(ClaimPage { items, more })
+    }
+
+    /// The places of all claims, ascending by cell, bucket, row and key. It takes no memory.
+    pub fn by_row(&self) -> ByRow<'_>
+        ensures { ArePlacesOf self.now.holder result }
+    {
+        ByRow::new(&self.keys, &self.rows)
     }
 
     /// All holders, settled leases and open leases, each in ascending order of key or lease.

@@ -25,6 +25,7 @@
 //! whose key is not held there (`specs/Kept` says what the parts know of each other).
 #![tactic(auto)]
 
+mod by_row;
 mod faults;
 mod holders;
 mod items;
@@ -38,6 +39,7 @@ mod rows;
 #[cfg(test)]
 mod tests;
 
+pub use by_row::ByRow;
 pub use claim_types::{ClaimItem, ClaimItems, ClaimPage, LeaseIds, LeasePage, Refusal, Verdict};
 pub use faults::{BeginFault, CommitFault, RollbackFault};
 pub use items::{BegunItem, BegunItems, DoneItem, DoneItems, HeldItem, HeldItems, LeaseParts};

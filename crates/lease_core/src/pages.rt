@@ -3,6 +3,7 @@ ghost use Rattle.std.specs.FinMap as map;
 ghost use Rattle.std.specs.FinMap.{values, from_entries};
 ghost use Rattle.claim_map.specs.Pages.{is_above as stands_behind, place_cmp, placed, is_listed};
 ghost use Rattle.lease_core.specs.Kept.{HasHeld};
+ghost use Rattle.lease_core.specs.Listed.{first_sought};
 ghost use Rattle.lease_core.specs.Gathered.{claim_at as claim_there, is_beyond as stands_beyond, is_place as is_its_place};
 
 use crate::lease_map::LeaseMap;
@@ -48,6 +49,21 @@ fn is_sought(lease: LeaseId, cell: u16, last: Option<LeaseId>) -> bool
     is_above(last, lease)
 }
 
+// A lease that none of a cell's page behind this one stands before.
+fn first_lease(cell: u16, last: Option<LeaseId>) -> LeaseId
+    ensures { result ≡ first_sought cell last }
+{
+    let least = LeaseId {
+        cell,
+        epoch: 0,
+        attempt: 0,
+    };
+    match last {
+        Some(last) if least < last => last,
+        _ => least,
+    }
+}
+
 /// The first open leases of a cell behind this one, at most so many.
 pub fn leases_above(
     alloc: Global,
@@ -59,8 +75,11 @@ pub fn leases_above(
     ensures { IfOk result (λ leases. leases.items ≡ take most (filter (λ l. nat_eq l.cell cell && stands_behind last l) (map.keys open_leases.now))) }
 {
     let mut leases = Vec::new(alloc);
-    for lease in open_leases.entries.keys() {
+    for (lease, _) in open_leases.entries.range(first_lease(cell, last)..) {
         if leases.len() >= most {
+            return Ok(leases);
+        }
+        if lease.cell > cell {
             return Ok(leases);
         }
         if is_sought(*lease, cell, last) {
@@ -92,8 +111,8 @@ fn lists(listing: &Listing, key: &ClaimKey, holding: &Holding) -> bool
         && listing.after < row
 }
 
-// Whether this is the place of its key, where the key is held so.
-fn is_place(place: &RowKey, holding: &Holding) -> bool
+/// Whether this is the place of its key, where the key is held so.
+pub fn is_place(place: &RowKey, holding: &Holding) -> bool
     ensures { result ≡ is_its_place place.now holding.now }
 {
     place.cell == holding.cell

@@ -6,6 +6,8 @@ pub mod Written
 pub mod MemberLaws
 pub mod QuestionLaws
 pub mod RequestLaws
+mod Tokens
+mod Returned
 pub mod ReadBack
 pub mod Writable
 pub mod ReplyLaws

@@ -1,6 +1,6 @@
 -- A question that was written is read again as the same, and so is what it was answered with.
-use Rattle.std.proofs.Common.{◌≡◌, ℕ, ◌≤◌, Bool, false, List, Some, None, Ok, Option, refl, sym, ap, ◌∙◌, arith, cond}
-use Rattle.std.specs.Prelude.{codes, length, nat_lt}
+use Rattle.std.proofs.Common.{◌≡◌, ℕ, ◌≤◌, List, Some, None, Ok, Option, refl, arith}
+use Rattle.std.specs.Prelude.{codes, length}
 use Rattle.std.proofs.lemmas.Bool.Decides.{nat_tests}
 use Rattle.serde_json.specs.Data.{Data, string, number, unsigned}
 use Rattle.serde_json.specs.Find.{get}

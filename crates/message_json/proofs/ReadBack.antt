@@ -15,6 +15,9 @@ use Rattle.message_json.specs.RequestWriter.{request_data}
 use Rattle.message_json.proofs.RequestLaws.{request_back}
 use Rattle.message_json.proofs.ReplyLaws.{reply_back}
 use Rattle.message_json.proofs.Utf8.{read_of-text}
+use Rattle.message_json.proofs.Written.{reply_shallow}
+use Rattle.message_json.proofs.Returned.{read_returned, reply_returns}
+use Rattle.message_json.specs.Fields.{IsTextOf}
 
 abbrev pub IsReadAs : Data → List ℕ → Type 0
 IsReadAs meant text = IsUtf8 text × (read text ≡ Some meant)
@@ -32,6 +35,7 @@ module _ {E : Type 0} where
   request_again (Ok text) request h = λ is. read_of-text of_read text h.0 ∙ ap of_read h.1 ∙ request_back request is
   request_again (Err e) request h = tt
 
-  pub reply_again : (result : Result (List ℕ) E) (reply : Reply) → IfOk result (IsReadAs (reply_data reply)) → IfOk result (λ text. IsReply reply → reply_of text ≡ Ok reply)
-  reply_again (Ok text) reply h = λ is. read_of-text reply_of_read text h.0 ∙ ap reply_of_read h.1 ∙ reply_back reply is
-  reply_again (Err e) reply h = tt
+-- a text with the tokens of a reply within its bounds is read as the reply
+pub reply_again : (reply : Reply) (text : List ℕ) → IsTextOf (reply_data reply) text → IsReply reply → reply_of text ≡ Ok reply
+reply_again reply text h is =
+    read_of-text reply_of_read text h.utf8 ∙ ap reply_of_read (read_returned (reply_data reply) text h.tokens_are (reply_shallow reply) (reply_returns reply is)) ∙ reply_back reply is

@@ -21,7 +21,7 @@ use Rattle.claim_types.specs.declared.message.Request.TheVariants.{Begin, Commit
 use Rattle.message_json.specs.declared.fault.BodyFault.{BodyFault}
 use Rattle.message_json.specs.declared.member.Member.TheVariants.{Ask, Lease, Creates, Destroys, Cell, Number, First, Last, After, SubjectId, Row, Path, Named}
 use Rattle.message_json.specs.Reading.{each, key_members, claim_members}
-use Rattle.message_json.specs.RequestReader.{create_of, destroy_of, creates_member, destroys_member, begin_of, commit_of, rollback_of, list_of, range_of, claims_of, classify_of, page_of, of_object, of_data}
+use Rattle.message_json.specs.RequestReader.{create_of, destroy_of, creates_member, destroys_member, begin_of, commit_of, rollback_of, list_of, range_of, claims_of, page_of, of_object, of_data}
 use Rattle.message_json.specs.RequestWriter.{create_data, destroy_data, request_data}
 use Rattle.message_json.proofs.MemberLaws.{text_back, number_back, flag_back, array_back, lease_back, after_back, bucket_back, subject_kind_back, table_back, key_back}
 use Rattle.message_json.proofs.QuestionLaws.{short_back, first_back, cell_back, session_back, claim_back, path_back}

@@ -1,5 +1,5 @@
 -- A body that is a text in UTF-8, and one that is none.
-use Rattle.std.proofs.Common.{◌≡◌, ℕ, List, Bool, true, false, if◌then◌else◌, Option, Result, Err, refl, ap}
+use Rattle.std.proofs.Common.{◌≡◌, ℕ, List, if◌then◌else◌, Option, Result, Err, ap}
 use Rattle.std.specs.Str.{IsUtf8, is_utf8}
 use Rattle.std.proofs.lemmas.Str.{is_utf8-from_IsUtf8, IsUtf8-from_is_utf8}
 use Rattle.serde_json.specs.Data.{Data}

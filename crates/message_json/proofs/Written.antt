@@ -80,35 +80,6 @@ request_shallow (Claims cell bucket first last after) = omega arith
 request_shallow (Classify asked) = omega (arith, front_shallow asked (question_back asked no_members), back_shallow asked no_members)
 request_shallow (Page cell path named) = omega arith
 
-denied_whole : (lease : List ℕ) (denial : Denial) → has_float (denied_data lease denial) ≡ false
-denied_whole lease (Settled how) = refl
-denied_whole lease OtherOperations = refl
-denied_whole lease (NoneOrTooMany n) = refl
-denied_whole lease (Twice key) = refl
-denied_whole lease (ForeignId id) = refl
-denied_whole lease TooManyOpen = refl
-denied_whole lease (Owned key cell) = refl
-denied_whole lease (Leased key by) = refl
-denied_whole lease (NotOwned key) = refl
-
-pub reply_whole : (reply : Reply) → has_float (reply_data reply) ≡ false
-reply_whole (Begun lease Good) = refl
-reply_whole (Begun lease (Denied denial)) = denied_whole (lease_text lease) denial
-reply_whole (Committed lease result) = refl
-reply_whole (RolledBack lease result) = refl
-reply_whole (Leases cell page) = rw (items_whole lease_item (λ lease. refl) page.leases) refl
-reply_whole (Ranged cell n (ranged.Good low high)) = refl
-reply_whole (Ranged cell n ranged.UnknownCell) = refl
-reply_whole (Ranged cell n (ranged.TooFar next)) = refl
-reply_whole (Ranged cell n (ranged.Exhausted last)) = refl
-reply_whole (ClaimsReply cell bucket first last after page) = rw (items_whole claim_item (λ claim. refl) page.items) refl
-reply_whole (Classified asked (InCell id)) = front_whole asked _ ∙ back_whole asked no_members
-reply_whole (Classified asked NotFound) = front_whole asked _ ∙ back_whole asked no_members
-reply_whole (Classified asked UnknownCell) = front_whole asked _ ∙ back_whole asked no_members
-reply_whole (PageReply cell path named None) = refl
-reply_whole (PageReply cell path named (Some id)) = refl
-reply_whole (NoCell cell) = refl
-
 denied_shallow : (lease : List ℕ) (denial : Denial) → depth (denied_data lease denial) ≤ max_depth
 denied_shallow lease (Settled how) = omega arith
 denied_shallow lease OtherOperations = omega arith

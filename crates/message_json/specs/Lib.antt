@@ -6,3 +6,4 @@ pub mod Texts
 pub mod RequestWriter
 pub mod ReplyWriter
 pub mod FaultWriter
+pub mod Fields

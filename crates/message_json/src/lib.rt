@@ -19,6 +19,7 @@
 
 mod fault;
 mod fault_writer;
+mod fields;
 mod laws;
 mod member;
 mod reader;

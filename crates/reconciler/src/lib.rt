@@ -1,0 +1,4 @@
+//! The agent of a cell.
+#![tactic(auto)]
+
+pub mod attempts;

@@ -1,19 +1,21 @@
 -- What asking for a change comes to.
-use Rattle.std.proofs.Common.{◌≡◌, ℕ, ◌<◌, ◌≤◌, ◌+◌, true, false, nat_lt, cond, Option, Some, None, Result, Ok, Err, length, refl, sym, ◌∙◌, ap, subst, arith}
+use Rattle.std.proofs.Common.{◌≡◌, ℕ, ◌<◌, ◌≤◌, ◌+◌, true, false, nat_lt, cond, Option, Some, None, Ok, Err, length, refl, sym, ◌∙◌, ap, arith}
 use Rattle.std.specs.FinMap as map
 use Rattle.std.proofs.lemmas.Bool.Decides.{nat_tests}
 use Rattle.std.proofs.lemmas.List.{length-map}
 use Rattle.claim_types.specs.Order.{lease_cmp}
 use Rattle.claim_types.specs.declared.limits.TheConstants.{ATTEMPTS_AND_ROWS}
+use Rattle.claim_types.specs.declared.lease.LeaseId.{LeaseId}
 use Rattle.claim_types.specs.declared.operations.Operations.{Operations}
 use Rattle.claim_types.specs.declared.record.Change.{Change}
+use Rattle.claim_types.specs.declared.rule.Attempt.{Attempt}
 use Rattle.claim_types.specs.declared.rule.Rule.{Rule}
 use Rattle.claim_types.specs.declared.rule.Rule.TheVariants.{TooManyRows}
 use Rattle.claim_map.specs.Claims.{operations_of}
 use Rattle.claim_map.specs.Rules.{rule_of}
 use Rattle.claim_map.specs.State.{Tree}
 use Rattle.cells_base.specs.Options.{◌or_else◌}
-use Rattle.claim_laws.specs.Nodes.{Agent, Asked, ask_change, asked_unless, attempts_and_rows, too_many_rows, next_lease, with_attempt, attempt_of}
+use Rattle.claim_laws.specs.Nodes.{Agent, ask_change, asked_unless, attempts_and_rows, too_many_rows, next_lease, with_attempt, attempt_of}
 use Rattle.record_tree.specs.Answer.{or_operations}
 
 -- operations come where no rule speaks against the change
@@ -47,6 +49,13 @@ module _ (cell : ℕ) (tree : Tree) (a : Agent) (change : Change) (now : ℕ) (f
     ops = operations_of tree change a.known;
   })
   asked_with_room few = by_room None (roomy few)
+
+  -- what is kept then
+  pub drawn_is : (lease : LeaseId) (attempt : Attempt) (p : map.FinMap lease_cmp Attempt) → lease ≡ next_lease cell a → attempt ≡ attempt_of tree a change now → p ≡ map.insert a.pending lease attempt →
+      record a { drawn = a.drawn + 1; pending = p } ≡ with_attempt a (next_lease cell a) (attempt_of tree a change now)
+  drawn_is lease attempt p named made put =
+      ap (λ (x : map.FinMap lease_cmp Attempt). record a { drawn = a.drawn + 1; pending = x })
+      (put ∙ ap (λ (l : LeaseId). map.insert a.pending l attempt) named ∙ ap (map.insert a.pending (next_lease cell a)) made)
 
 -- a map has as many keys as entries
 pub length-keys : {V : Type 0} (m : map.FinMap lease_cmp V) → length (map.keys m) ≡ map.len m

@@ -1,5 +1,5 @@
 -- Which entries of a map are due.
-use Rattle.std.proofs.Common.{◌≡◌, ◌≢◌, inl, inr, ℕ, Bool, true, false, T, not, ◌&&◌, cond, List, [], ◌∷◌, Option, Some, None, slice_index_or, filter, drop, refl, sym, ◌∙◌, ap, subst}
+use Rattle.std.proofs.Common.{◌≡◌, ◌≢◌, inl, inr, ℕ, Bool, true, false, T, not, ◌&&◌, cond, List, [], ◌∷◌, Some, None, slice_index_or, filter, drop, refl, sym, ◌∙◌, ap, subst}
 use Rattle.std.specs.declared.cmp.Ordering.{Ordering}
 use Rattle.std.specs.declared.cmp.Ordering.TheVariants.{Less, Equal, Greater}
 use Rattle.std.specs.Ordering.{is_lt, is_eq, eq_by_cmp}

@@ -6,8 +6,7 @@ use Rattle.claim_types.specs.declared.entry.CellEntry.TheVariants.{RowGone, Got}
 use Rattle.claim_types.specs.declared.lease.LeaseId.{LeaseId}
 use Rattle.claim_types.specs.declared.operations.Operations.{Operations}
 use Rattle.claim_map.specs.State.{Tree}
-use Rattle.claim_laws.specs.Files.{Store}
-use Rattle.claim_laws.specs.Nodes.{Agent, Heard, passes_over, with_range, hears_committed, hears_range, is_next}
+use Rattle.claim_laws.specs.Nodes.{Agent, passes_over, with_range, hears_committed, hears_range, is_next}
 use Rattle.disk_journal.specs.declared.disk.Disk.{Ghosts}
 use Rattle.disk_journal.specs.Entries.{Format, Keeper, Appended}
 use Rattle.disk_journal.proofs.Entries.{nothing_appended}

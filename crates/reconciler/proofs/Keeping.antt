@@ -1,5 +1,5 @@
 -- What an agent keeps stays in order, move by move.
-use Rattle.std.proofs.Common.{◌≡◌, ◌≢◌, ◌⊎◌, inl, inr, ℕ, ◌+◌, ◌<◌, ◌≤◌, Option, Some, None, refl, sym, ◌∙◌, ap, subst, arith}
+use Rattle.std.proofs.Common.{◌≡◌, ◌≢◌, ◌⊎◌, inl, inr, ℕ, ◌+◌, ◌<◌, Option, Some, None, refl, sym, ◌∙◌, ap, subst, arith}
 use Rattle.std.specs.FinMap as map
 use Rattle.cells_base.proofs.Maps.{inserted, removed, insert_other}
 use Rattle.cells_base.proofs.Counts.{len_more, len_less, len_taken}
@@ -10,7 +10,7 @@ use Rattle.claim_types.specs.declared.cell.Range.{Range}
 use Rattle.claim_types.specs.declared.lease.LeaseId.{LeaseId}
 use Rattle.claim_types.specs.declared.operations.Operations.{Operations}
 use Rattle.claim_types.specs.declared.rule.Attempt.{Attempt}
-use Rattle.claim_laws.specs.Nodes.{Agent, KeepsInOrder, attempts_and_rows, without_attempt, without_row, with_row, with_range, with_attempt, next_lease}
+use Rattle.claim_laws.specs.Nodes.{Agent, attempts_and_rows, without_attempt, without_row, with_row, with_range, with_attempt, next_lease}
 use Rattle.claim_laws.specs.World.{IsDrawnBy}
 use Rattle.reconciler.specs.Kept.{IsAgentInOrder}
 

@@ -1,11 +1,10 @@
 -- An agent whose store or attempts have moved is in order again.
-use Rattle.std.proofs.Common.{◌≡◌, ℕ, Some, refl, sym, ◌∙◌, ap, subst}
+use Rattle.std.proofs.Common.{◌≡◌, ℕ, Some, refl, sym, subst}
 use Rattle.std.specs.FinMap as map
 use Rattle.claim_types.specs.Leases.{IsLease}
 use Rattle.claim_types.specs.Order.{lease_cmp}
 use Rattle.claim_types.specs.declared.cell.Range.{Range}
 use Rattle.claim_types.specs.declared.lease.LeaseId.{LeaseId}
-use Rattle.claim_types.specs.declared.record.Change.{Change}
 use Rattle.claim_types.specs.declared.rule.Attempt.{Attempt}
 use Rattle.claim_laws.specs.Files.{Store}
 use Rattle.cell_store.specs.Calls.{with_record, without_row, with_range}

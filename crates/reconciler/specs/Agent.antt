@@ -1,6 +1,5 @@
 -- The agent over its store: what it keeps, and what its calls answer.
-use Rattle.std.specs.Prelude.{◌≡◌, ◌≤◌, ℕ, Option, Some, None, Result, Ok, Err}
-use Rattle.std.specs.FinMap as map
+use Rattle.std.specs.Prelude.{◌≡◌, Option, Some, None, Result, Ok, Err}
 use Rattle.claim_types.specs.declared.lease.LeaseId.{LeaseId}
 use Rattle.claim_types.specs.declared.rule.Rule.{Rule}
 use Rattle.claim_types.specs.declared.rule.Rule.TheVariants.{Memory}
@@ -9,9 +8,6 @@ use Rattle.claim_types.specs.declared.step.Step.TheVariants.{Recorded}
 use Rattle.claim_types.specs.declared.message.Request.{Request}
 use Rattle.claim_types.specs.declared.message.Request.TheVariants.{Begin}
 use Rattle.claim_types.specs.declared.message.Reply.{Reply}
-use Rattle.claim_types.specs.declared.message.Reply.TheVariants.{Ranged}
-use Rattle.claim_types.specs.declared.message.RangedResult.TheVariants.{Good}
-use Rattle.claim_types.specs.declared.cell.Range.{Range}
 use Rattle.claim_laws.specs.Nodes.{Agent, Heard, hears, Asked}
 use Rattle.disk_journal.specs.declared.disk.Disk.{Ghosts}
 use Rattle.disk_journal.specs.Entries.{IsAtRest, Appended, AppendsAtMost, LeavesEntryInDoubt}
@@ -27,10 +23,6 @@ kept_by a = kept_with (stored a.store) a.pending a.drawn
 -- what comes of a reply that it hears
 abbrev pub heard_by : CellAgent → Reply → Heard
 heard_by a reply = hears a.store.cell (stored a.store).tree (kept_by a) reply
-
--- the reply by which a range is given
-abbrev pub gives : Range → Reply
-gives range = Ranged range.cell range.number (Good range.low range.high)
 
 -- What holds of every agent.
 pub record IsAgent (a : CellAgent) : Type 0 where

@@ -3,19 +3,18 @@ ghost use Rattle.std.specs.Prelude.{◌≡◌, ◌<◌, ◌&&◌, nat_eq, [], �
 ghost use Rattle.std.specs.List.{slice_get};
 ghost use Rattle.std.specs.FinMap as map;
 ghost use Rattle.claim_types.specs.Leases.{IsLease};
-ghost use Rattle.claim_types.specs.Bounds.{IsRange};
 ghost use Rattle.claim_types.specs.MessageBounds.{IsReply};
 ghost use Rattle.claim_types.specs.declared.limits.TheConstants.{GREATEST_ATTEMPT};
 ghost use Rattle.claim_types.specs.declared.message.Reply.TheVariants.{Begun, Committed, Leases, Ranged};
 ghost use Rattle.claim_types.specs.declared.message.BegunResult.TheVariants.{Good, Denied};
 ghost use Rattle.claim_types.specs.declared.message.CommittedResult.TheVariants.{Good as CommittedGood};
-ghost use Rattle.claim_types.specs.declared.message.RangedResult.TheVariants.{Good as RangedGood};
 ghost use Rattle.claim_map.specs.Claims.{claims_of};
-ghost use Rattle.claim_laws.specs.Nodes.{ask_change, due_attempts, without_attempt, without_attempts, ask_reconcile, ask_range, is_next, requests_for_listed, next_page, hears_page};
+ghost use Rattle.claim_laws.specs.Nodes.{attempts_and_rows, next_lease, ask_change, due_attempts, without_attempt, without_attempts, ask_reconcile, ask_range, is_next, requests_for_listed, next_page, hears_page};
 ghost use Rattle.disk_journal.specs.Entries.{TouchesOnly, FailsAt, Untouched};
+ghost use Rattle.record_tree.specs.Answer.{Gives, answer_of};
 ghost use Rattle.record_tree.specs.Paths.{IsPathHolder};
 ghost use Rattle.cell_store.specs.Store.{stored, IsStore, AreRowsEarlier};
-ghost use Rattle.reconciler.specs.Agent.{kept_by, heard_by, gives, IsAgent, IsSameAgent, Answers, IsHeard, Rests, Writes, WritesAtMost, LeavesInDoubt};
+ghost use Rattle.reconciler.specs.Agent.{kept_by, heard_by, IsAgent, IsSameAgent, Answers, IsHeard, Rests, Writes, WritesAtMost, LeavesInDoubt};
 ghost use Rattle.reconciler.specs.declared.outcome.AgentFault.TheVariants.{Failed, Memory};
 
 use crate::attempts::Attempts;
@@ -23,7 +22,7 @@ use crate::outcome::{AgentFault, Outcome, Requests, copy_of, nothing};
 use cell_store::{CellStore, RecordFault};
 use claim_types::{
     ATTEMPTS_AND_ROWS, Attempt, BegunResult, Change, CommittedResult, Copied, Denial, Ended, Items,
-    LeaseId, LeasePage, NoMemory, Range, RangedResult, Reply, Request, Rule,
+    LeaseId, LeasePage, NoMemory, Operations, Range, RangedResult, Reply, Request, Rule,
 };
 use disk_journal::Disk;
 use std::alloc::Global;
@@ -106,6 +105,36 @@ impl CellAgent {
         self.pending.has(lease)
     }
 
+    // The operations of a change on the present records, or the first rule of records that it breaks.
+    fn operations_of(&self, alloc: Global, change: &Change) -> Result<Operations, Rule>
+        requires { IsAgent self.now }
+        ensures { Gives result (answer_of (stored self.now.store).tree change.now (kept_by self.now).known) }
+    {
+        self.store
+            .tree()
+            .operations_of(alloc, change, self.store.known())
+    }
+
+    // How many attempts and rows there are, together.
+    fn attempts_and_rows(&self) -> u64
+        requires { IsAgent self.now }
+        ensures { result ≡ attempts_and_rows (kept_by self.now) }
+    {
+        (self.pending.len() + self.store.rows().len()) as u64
+    }
+
+    // The lease that is drawn next.
+    fn next_lease(&self) -> LeaseId
+        requires { (kept_by self.now).drawn < GREATEST_ATTEMPT }
+        ensures { result ≡ next_lease self.now.store.cell (kept_by self.now) }
+    {
+        LeaseId {
+            cell: self.store.cell(),
+            epoch: self.store.epoch(),
+            attempt: self.drawn + 1,
+        }
+    }
+
     /// Asks for a change at a moment in seconds: draws the next lease and gives its begin. Fewer than 2^62 - 1
     /// leases were drawn in this epoch.
     ///
@@ -121,22 +150,16 @@ impl CellAgent {
         ensures store { self.new.store ≡ self.old.store }
         ensures same { IsSameAgent self.old self.new }
     {
-        let tree = self.store.tree();
-        let ops = tree.operations_of(alloc, &change, self.store.known())?;
-        let version = tree.version();
-        let n = (self.pending.len() + self.store.rows().len()) as u64;
+        let ops = self.operations_of(alloc, &change)?;
+        let n = self.attempts_and_rows();
         if n >= ATTEMPTS_AND_ROWS {
             return Err(Rule::TooManyRows { n });
         }
-        let lease = LeaseId {
-            cell: self.store.cell(),
-            epoch: self.store.epoch(),
-            attempt: self.drawn + 1,
-        };
+        let lease = self.next_lease();
         let attempt = Attempt {
             change,
             ops: ops.copy(alloc)?,
-            version,
+            version: self.store.tree().version(),
             since: now,
         };
         self.pending.put(lease, attempt)?;
@@ -392,30 +415,105 @@ impl CellAgent {
         &mut self,
         alloc: Global,
         disk: &mut D,
-        range: Range,
+        cell: u16,
+        number: u64,
+        answer: RangedResult,
     ) -> Result<Outcome, AgentFault>
         requires agent { IsAgent self.old }
-        requires range { IsRange range }
+        requires bounds { IsReply (Ranged cell number answer) }
         requires live { IsTrue self.old.store.journal.live }
         requires at_rest { Rests D.Disk disk.old self.old }
-        ensures ok { IfOk result (IsHeard (heard_by self.old (gives range)) self.new) }
+        ensures ok { IfOk result (IsHeard (heard_by self.old (Ranged cell number answer)) self.new) }
         ensures live { OnOk result (IsTrue self.new.store.journal.live) }
         ensures agent { OnOk result (IsAgent self.new) }
         ensures written { OnOk result
-            (Writes D.Disk disk.old disk.new self.old self.new (heard_by self.old (gives range))) }
-        ensures any_moment { WritesAtMost D.Disk disk.old disk.new self.old (heard_by self.old (gives range)) }
+            (Writes D.Disk disk.old disk.new self.old self.new (heard_by self.old (Ranged cell number answer))) }
+        ensures any_moment { WritesAtMost D.Disk disk.old disk.new self.old (heard_by self.old (Ranged cell number answer)) }
         ensures in_doubt { IsErrOf result AgentFault.Failed →
-            LeavesInDoubt D.Disk disk.old disk.new self.old (heard_by self.old (gives range)) }
+            LeavesInDoubt D.Disk disk.old disk.new self.old (heard_by self.old (Ranged cell number answer)) }
         ensures memory { IsErrOf result AgentFault.Memory → Untouched disk.old disk.new self.old self.new }
         ensures failed { IsErrOf result AgentFault.Failed →
-            FailsAt D.Disk self.old.store.cell disk.old disk.new (heard_by self.old (gives range)).entry }
+            FailsAt D.Disk self.old.store.cell disk.old disk.new (heard_by self.old (Ranged cell number answer)).entry }
         ensures others { TouchesOnly D.Disk self.old.store.cell disk.old disk.new }
         ensures same { IsSameAgent self.old self.new }
     {
+        let range = match answer {
+            RangedResult::Good { low, high } => Range {
+                cell,
+                number,
+                low,
+                high,
+            },
+            RangedResult::UnknownCell
+            | RangedResult::TooFar { .. }
+            | RangedResult::Exhausted { .. } => return Ok(nothing(alloc)),
+        };
         if !self.keeps_next(range) {
             return Ok(nothing(alloc));
         }
         self.store.range_got(alloc, disk, range)?;
         Ok(nothing(alloc))
+    }
+
+    /// Does what a reply calls for. The entry, if there is one, is on the disk before the answer, and so before
+    /// any request that it asks to send; all memory is taken before anything is written. A reply is within its
+    /// bounds. No answer hangs on the moment at which it came.
+    ///
+    /// Errors: [`AgentFault::Failed`] where a call of the disk failed, after which the store is opened again and
+    /// its attempts are gone; [`AgentFault::Memory`] where memory was wanted, and then nothing changed.
+    pub fn receive<D: Disk>(
+        &mut self,
+        alloc: Global,
+        disk: &mut D,
+        reply: &Reply,
+        now: u64,
+    ) -> Result<Outcome, AgentFault>
+        requires agent { IsAgent self.old }
+        requires bounds { IsReply reply.now }
+        requires live { IsTrue self.old.store.journal.live }
+        requires at_rest { Rests D.Disk disk.old self.old }
+        ensures ok { IfOk result (IsHeard (heard_by self.old reply.now) self.new) }
+        ensures live { OnOk result (IsTrue self.new.store.journal.live) }
+        ensures agent { OnOk result (IsAgent self.new) }
+        ensures written { OnOk result
+            (Writes D.Disk disk.old disk.new self.old self.new (heard_by self.old reply.now)) }
+        ensures any_moment { WritesAtMost D.Disk disk.old disk.new self.old (heard_by self.old reply.now) }
+        ensures in_doubt { IsErrOf result AgentFault.Failed →
+            LeavesInDoubt D.Disk disk.old disk.new self.old (heard_by self.old reply.now) }
+        ensures memory { IsErrOf result AgentFault.Memory → Untouched disk.old disk.new self.old self.new }
+        ensures failed { IsErrOf result AgentFault.Failed →
+            FailsAt D.Disk self.old.store.cell disk.old disk.new (heard_by self.old reply.now).entry }
+        ensures others { TouchesOnly D.Disk self.old.store.cell disk.old disk.new }
+        ensures same { IsSameAgent self.old self.new }
+    {
+        match reply {
+            Reply::Begun {
+                lease,
+                result: BegunResult::Good,
+            } => self.hear_begun(alloc, disk, *lease),
+            Reply::Begun {
+                lease,
+                result: BegunResult::Denied(denial),
+            } => Ok(self.hear_denied(alloc, *lease, denial)?),
+            Reply::Committed {
+                lease,
+                result: CommittedResult::Good,
+            } => self.hear_committed(alloc, disk, *lease),
+            Reply::Leases { page, .. } => Ok(self.hear_page(alloc, page)?),
+            Reply::Ranged {
+                cell,
+                number,
+                result,
+            } => self.hear_range(alloc, disk, *cell, *number, *result),
+            Reply::Committed {
+                result: CommittedResult::Unknown | CommittedResult::WasRolledBack,
+                ..
+            }
+            | Reply::RolledBack { .. }
+            | Reply::Claims { .. }
+            | Reply::Classified { .. }
+            | Reply::Page { .. }
+            | Reply::NoCell { .. } => Ok(nothing(alloc)),
+        }
     }
 }

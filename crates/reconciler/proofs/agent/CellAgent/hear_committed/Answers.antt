@@ -1,4 +1,4 @@
-use Rattle.std.proofs.Common.{Some, sym, ◌∙◌, ap, subst, Option}
+use Rattle.std.proofs.Common.{sym, ◌∙◌, subst, Option}
 use Rattle.std.specs.FinMap as map
 use Rattle.claim_types.specs.declared.entry.CellEntry.{CellEntry}
 use Rattle.disk_journal.specs.Entries.{Appended, AppendsAtMost}

@@ -1,12 +1,5 @@
-use Rattle.std.proofs.Common.{◌≡◌, Some, List, sym, ◌∙◌, ap, subst}
-use Rattle.std.specs.List.{All}
-use Rattle.std.specs.FinMap as map
-use Rattle.claim_types.specs.Order.{lease_cmp}
-use Rattle.claim_types.specs.declared.lease.LeaseId.{LeaseId}
-use Rattle.claim_types.specs.declared.rule.Attempt.{Attempt}
-use Rattle.claim_types.proofs.Ordered.{leases_total, leases_exact}
+use Rattle.std.proofs.Common.{◌∙◌, ap}
 use Rattle.reconciler.specs.Due.{due_in}
-use Rattle.reconciler.proofs.Trees.{get_tree, entries_tree}
 use Rattle.reconciler.proofs.Dues.{aged, aged-tree}
 use Rattle.reconciler.proofs.attempts.Attempts.first_due.Goals as goal
 

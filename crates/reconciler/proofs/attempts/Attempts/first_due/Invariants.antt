@@ -1,5 +1,4 @@
 use Rattle.std.proofs.Common.{◌≡◌}
-use Rattle.std.specs.List.{slice_get}
 use Rattle.reconciler.specs.Due.{due_in}
 use Rattle.reconciler.proofs.Dues.{aged}
 use Rattle.reconciler.proofs.attempts.Attempts.first_due.Given as goal

@@ -1,5 +1,5 @@
 //! What a cell keeps on its file, in memory.
-ghost use Rattle.std.specs.Prelude.{◌≡◌, None, Ok, IfOk, OnOk, OnErr};
+ghost use Rattle.std.specs.Prelude.{◌≡◌, IsTrue, is_some, None, Ok, IfOk, OnOk, OnErr};
 ghost use Rattle.std.specs.FinMap as map;
 ghost use Rattle.claim_types.specs.declared.entry.CellEntry.TheVariants.{Epoch, Recorded, RowGone, Got};
 ghost use Rattle.claim_map.specs.Ranges.{last_end};
@@ -8,7 +8,7 @@ ghost use Rattle.claim_laws.specs.Nodes.{still_fits, is_next};
 ghost use Rattle.claim_laws.specs.Files.{empty_store, may_keep_row};
 ghost use Rattle.record_tree.specs.Known.{IsWithin};
 ghost use Rattle.cell_store.specs.Store.{kept};
-ghost use Rattle.cell_store.specs.Calls.{with_record};
+ghost use Rattle.cell_store.specs.Calls.{with_record, without_row, with_range};
 ghost use Rattle.cell_store.specs.Turns.{IsTurn};
 
 use crate::rows::Rows;
@@ -99,6 +99,22 @@ impl CellState {
         }
     }
 
+    /// Takes the row of a lease away, which takes no memory.
+    pub fn take_row(&mut self, lease: LeaseId)
+        requires { IsTrue (is_some (map.get self.old.rows lease)) }
+        ensures { kept self.new ≡ without_row (kept self.old) lease }
+    {
+        self.rows.remove(lease);
+    }
+
+    /// Puts a range behind the others. Its one error is want of memory.
+    pub fn add_range(&mut self, range: Range) -> Result<(), NoMemory>
+        ensures ok { OnOk result (kept self.new ≡ with_range (kept self.old) range) }
+        ensures err { OnErr result (kept self.new ≡ kept self.old) }
+    {
+        self.known.push(range)
+    }
+
     // Whether a lease may get a row: it is of this cell, drawn in the present epoch or an earlier one,
     // and without a row, and there is room for one more.
     fn may_keep_row(&self, cell: u16, lease: LeaseId) -> bool
@@ -153,7 +169,7 @@ impl CellState {
         if !self.rows.has(lease) {
             return false;
         }
-        self.rows.remove(lease);
+        self.take_row(lease);
         true
     }
 
@@ -163,7 +179,7 @@ impl CellState {
         if !is_next(self.known.as_slice(), &range) {
             return Ok(false);
         }
-        self.known.push(range)?;
+        self.add_range(range)?;
         Ok(true)
     }
 

@@ -1,7 +1,8 @@
 -- Leases in order with operations beside them, as a list of entries and as a finite map.
 use Rattle.std.proofs.Common.{◌≡◌, ◌≢◌, ℕ, zero, suc, ◌<◌, ◌≤◌, T, Bool, true, false, ◌&&◌, not, cond, nat_lt, inl, inr, List, [], ◌∷◌, length, map, take, drop, get_or, insert, Option, Some, None, is_some, Result, Ok, Err, refl, sym, ◌∙◌, ap, subst, arith}
-use Rattle.std.specs.List.{AllPairs, Contains, list_any, remove}
-use Rattle.std.specs.List.Sorted.{IsNonDecreasingBy, IsPartitionPoint}
+use Rattle.std.specs.Prelude.{IfOk, is_ok}
+use Rattle.std.specs.List.{AllPairs, Contains, HoldsAt, list_any, remove}
+use Rattle.std.specs.List.Sorted.{IsBinarySearchResult, IsNonDecreasingBy, IsPartitionPoint, IsSearchInRange}
 use Rattle.std.specs.Ordering.{eq_by_cmp, is_eq, is_lt, ordering_index, ordering_reverse}
 use Rattle.std.specs.declared.cmp.Ordering.{Ordering}
 use Rattle.std.specs.declared.cmp.Ordering.TheVariants.{Less, Equal, Greater}
@@ -12,7 +13,7 @@ use Rattle.std.proofs.lemmas.Float.{T_from_true}
 use Rattle.std.proofs.lemmas.Bool.Decides.{nat_tests}
 use Rattle.std.proofs.lemmas.List.Edits.{length-insert, length-remove}
 use Rattle.std.specs.Cmp.{tied_itself}
-use Rattle.cells_base.proofs.Counts.{entries_remove}
+use Rattle.cells_base.proofs.Counts.{entries_remove, no_entries}
 use Rattle.cells_base.proofs.Finds.{any_none, any_passes}
 use Rattle.cells_base.proofs.Maps.{tie_itself, no_tie, same_or_other, insert_other, remove_same, remove_other}
 use Rattle.cells_base.proofs.Members.{here}
@@ -22,7 +23,7 @@ use Rattle.claim_types.specs.Order.{lease_cmp}
 use Rattle.claim_types.specs.declared.lease.LeaseId.{LeaseId}
 use Rattle.claim_types.specs.declared.operations.Operations.{Operations}
 use Rattle.claim_types.proofs.Ordered.{leases_total, leases_exact}
-use Rattle.cell_store.specs.Rows.{row_entries, AreRows, AreInOrder}
+use Rattle.cell_store.specs.Rows.{row_entries, AreRows, AreInOrder, IsRowPlace}
 
 -- the leases of the entries
 pub leases_of : (ls : List LeaseId) (os : List Operations) → length os ≡ length ls → map (λ (e : LeaseId × Operations). e.0) (row_entries ls os) ≡ ls
@@ -232,3 +233,54 @@ put_back m k o none = finmap.same_map leases_total leases_exact (finmap.remove (
   | inl e ↦ subst (λ x. finmap.get (finmap.remove (finmap.insert m k o) k) x ≡ finmap.get m x) (sym e) (remove_same leases_total leases_exact (finmap.insert m k o) k ∙ sym none)
   | inr apart ↦ remove_other leases_total leases_exact (finmap.insert m k o) k q apart ∙ insert_other leases_total leases_exact m k o q apart
 ])
+
+-- no row, and how many rows there are
+pub no_rows : AreRows [] []
+no_rows = record { beside = refl; ascending = refl }
+
+pub none_is : (ls : List LeaseId) (os : List Operations) → ls ≡ [] → from_sorted {R = lease_cmp} (row_entries ls os) ≡ finmap.empty
+none_is [] os e = same_entries_map (from_sorted []) finmap.empty (entries-from_sorted lease_cmp [] tt ∙ sym (no_entries lease_cmp))
+none_is (l ∷ ls) os e = absurd cc
+
+entries_length : (ls : List LeaseId) (os : List Operations) → length os ≡ length ls → length (row_entries ls os) ≡ length ls
+entries_length [] os beside = refl
+entries_length (l ∷ ls) [] beside = absurd (omega (arith, beside))
+entries_length (l ∷ ls) (o ∷ os) beside = ap (λ n. suc n) (entries_length ls os (omega (arith, beside)))
+
+pub len_is : (ls : List LeaseId) (os : List Operations) → AreRows ls os → finmap.len (from_sorted {R = lease_cmp} (row_entries ls os)) ≡ length ls
+len_is ls os rows =
+    finmap.len-entries (from_sorted {R = lease_cmp} (row_entries ls os))
+    ∙ ap length (entries-from_sorted lease_cmp (row_entries ls os) (T_from_true (is_sorted lease_cmp (row_entries ls os)) rows.ascending))
+    ∙ entries_length ls os rows.beside
+
+-- what a search answers
+pub search_is : (ls : List LeaseId) (k : LeaseId) → AreInOrder ls → (r : Result ℕ ℕ) → IsSearchInRange r (length ls) → IfOk r (HoldsAt (λ y. lease_cmp y k ≡ Equal) ls) → IsBinarySearchResult (λ y. lease_cmp y k) ls r → IsRowPlace ls k r
+search_is ls k order (Ok at) bound ok position = (bound, λ d. leases_exact (get_or ls at d) k (ok d))
+search_is ls k order (Err at) bound ok position = (bound, position (search_rises ls k order))
+
+-- whether it found the lease
+pub found_is : (ls : List LeaseId) (os : List Operations) → AreRows ls os → (k : LeaseId) (r : Result ℕ ℕ) → IsRowPlace ls k r → is_some (finmap.get (from_sorted {R = lease_cmp} (row_entries ls os)) k) ≡ is_ok r
+found_is ls os rows k (Ok at) is = there ls os rows k at is.0 (is.1 k)
+found_is ls os rows k (Err at) is = missing ls os rows k at is.1
+
+-- the same of lists that are told to be so
+module _ (ls : List LeaseId) (os : List Operations) (rows : AreRows ls os) (k : LeaseId) where
+  pub not_there : finmap.get (from_sorted {R = lease_cmp} (row_entries ls os)) k ≡ None → Contains ls k → ⊥
+  not_there none is = let both : true ≡ false = sym (there ls os rows k is.0 is.1 is.2) ∙ ap is_some none in cc
+
+  module _ (o : Operations) (n : ℕ) (is : IsRowPlace ls k (Err n)) (ls' : List LeaseId) (os' : List Operations) (one : ls' ≡ insert ls n k) (two : os' ≡ insert os n o) where
+    pub rows_put : AreRows ls' os'
+    rows_put = subst (λ (xs : List LeaseId). AreRows xs os') (sym one) (subst (λ (ys : List Operations). AreRows (insert ls n k) ys) (sym two) (rows_insert ls os rows k o n is.0 is.1))
+
+    pub map_put : from_sorted {R = lease_cmp} (row_entries ls' os') ≡ finmap.insert (from_sorted (row_entries ls os)) k o
+    map_put = (λ i. from_sorted {R = lease_cmp} (row_entries (one i) (two i))) ∙ map_insert ls os rows k o n is.0 is.1
+
+  module _ (n : ℕ) (is : IsRowPlace ls k (Ok n)) (ls' : List LeaseId) (os' : List Operations) (one : ls' ≡ remove ls n) (two : os' ≡ remove os n) where
+    pub rows_taken : AreRows ls' os'
+    rows_taken = subst (λ (xs : List LeaseId). AreRows xs os') (sym one) (subst (λ (ys : List Operations). AreRows (remove ls n) ys) (sym two) (rows_without ls os rows k n is.0 is.1))
+
+    pub map_taken : from_sorted {R = lease_cmp} (row_entries ls' os') ≡ finmap.remove (from_sorted (row_entries ls os)) k
+    map_taken = (λ i. from_sorted {R = lease_cmp} (row_entries (one i) (two i))) ∙ map_without ls os rows k n is.0 is.1
+
+  pub found_not : (n : ℕ) → IsRowPlace ls k (Err n) → is_some (finmap.get (from_sorted {R = lease_cmp} (row_entries ls os)) k) ≡ true → ⊥
+  found_not n is some = let both : true ≡ false = sym some ∙ found_is ls os rows k (Err n) is in cc

@@ -2,3 +2,4 @@ pub mod Rows
 pub mod Store
 pub mod Calls
 pub mod Opening
+pub mod Turns

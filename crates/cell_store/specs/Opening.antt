@@ -11,6 +11,8 @@ use Rattle.disk_journal.specs.Disk.{Image}
 use Rattle.disk_journal.specs.Moments.{LeavesOnly}
 use Rattle.disk_journal.specs.Journal.{HasBodies, IsRefused}
 use Rattle.disk_journal.specs.Effects.{OthersStay}
+use Rattle.disk_journal.specs.declared.fault.JournalFault.{JournalFault}
+use Rattle.disk_journal.specs.declared.fault.JournalFault.TheVariants.{NotAJournal as NoJournal, Failed as JournalFailed, Memory as JournalMemory}
 use Rattle.disk_journal.specs.Entries.{HasEntries, Stands, HasAsBefore, AlwaysHasEntries}
 use Rattle.entry_codec.specs.Spelling.{cell_entry_bytes}
 use Rattle.cell_store.specs.declared.fault.CellOpenFault.{CellOpenFault}
@@ -72,6 +74,12 @@ pub record HasAsBeforeOrNext {D : Type 0} (g : Ghosts D) (cell : ℕ) (old : D) 
 -- What a crash at any moment of an opening leaves.
 abbrev pub OpensAtNext : {D : Type 0} → Ghosts D → ℕ → D → D → Type 0
 OpensAtNext g cell old new = AlwaysHasEntries g (store cell) old cell → LeavesOnly g old new (HasAsBeforeOrNext g cell old)
+
+-- how a fault of the journal is told
+abbrev pub fault_of : JournalFault → CellOpenFault
+fault_of (NoJournal at) = NotAJournal at
+fault_of JournalFailed = Failed
+fault_of JournalMemory = Memory
 
 -- where a file was refused, or memory was wanted
 abbrev pub IfRefused : Result CellStore CellOpenFault → Type 0 → Type 0

@@ -1,11 +1,11 @@
 //! Why a call on a store did nothing, or not all.
 ghost use Rattle.std.specs.Prelude.{◌≡◌};
-ghost use Rattle.cell_store.specs.declared.fault.CellOpenFault.TheVariants.{Memory as OpenMemory};
+ghost use Rattle.cell_store.specs.declared.fault.CellOpenFault.TheVariants.{Failed as OpenFailed, Memory as OpenMemory};
 ghost use Rattle.cell_store.specs.declared.fault.RecordFault.TheVariants.{Failed as RecordFailed, Memory as RecordMemory};
 ghost use Rattle.cell_store.specs.declared.fault.StoreFault.TheVariants.{Failed as StoreFailed, Memory as StoreMemory};
 
 use claim_types::NoMemory;
-use disk_journal::DiskFailed;
+use disk_journal::{DiskFailed, JournalFault};
 
 /// Why a cell's store was not opened, in the order in which the reasons are sought.
 #[derive(Clone, Copy, Debug, PartialEq, Eq)]
@@ -48,6 +48,28 @@ impl From<NoMemory> for CellOpenFault {
 
     fn from(_: NoMemory) -> Self {
         CellOpenFault::Memory
+    }
+}
+
+impl From<JournalFault> for CellOpenFault {
+    ghost use Rattle.cell_store.specs.Opening.{fault_of};
+
+    ghost from_gives = { λ e f. f ≡ fault_of e };
+
+    fn from(fault: JournalFault) -> Self {
+        match fault {
+            JournalFault::NotAJournal { at } => CellOpenFault::NotAJournal { at },
+            JournalFault::Failed => CellOpenFault::Failed,
+            JournalFault::Memory => CellOpenFault::Memory,
+        }
+    }
+}
+
+impl From<DiskFailed> for CellOpenFault {
+    ghost from_gives = { λ _ e. e ≡ OpenFailed };
+
+    fn from(_: DiskFailed) -> Self {
+        CellOpenFault::Failed
     }
 }
 

@@ -28,6 +28,7 @@
 #![tactic(auto)]
 
 mod fault;
+mod opening;
 mod rows;
 mod state;
 mod store;

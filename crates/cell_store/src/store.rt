@@ -1,10 +1,14 @@
 //! The store over its journal.
-ghost use Rattle.std.specs.Prelude.{◌≡◌, IsTrue, is_some, IfOk, IfErr, OnOk, OnErr, IsErrOf};
+ghost use Rattle.std.specs.Prelude.{◌≡◌, ◌+◌, ◌≤◌, IsTrue, is_some, IfSome, IfNone, IfOk, IfErr, OnOk, OnErr, IsErrOf};
 ghost use Rattle.std.specs.FinMap as map;
 ghost use Rattle.claim_types.specs.Bounds.{IsCell};
 ghost use Rattle.claim_types.specs.declared.entry.CellEntry.TheVariants.{Recorded, RowGone, Got};
 ghost use Rattle.disk_journal.specs.Effects.{FailedAt};
 ghost use Rattle.disk_journal.specs.Entries.{OpensAs, TouchesOnly, Untouched};
+ghost use Rattle.claim_types.specs.EntryBounds.{IsCellEntry};
+ghost use Rattle.claim_types.specs.declared.limits.TheConstants.{GREATEST_EPOCH};
+ghost use Rattle.disk_journal.specs.Journal.{IsBody};
+ghost use Rattle.entry_codec.specs.Spelling.{cell_entry_bytes};
 ghost use Rattle.cell_store.specs.Store.{store, stored, IsStore, IsSameCell, AreRowsEarlier, Rests};
 ghost use Rattle.cell_store.specs.Calls.{Writes, WritesAtMost, LeavesInDoubt, MayGetRow, MayBeKept, with_record, without_row, with_range, TellsChanged, IfChanged};
 ghost use Rattle.cell_store.specs.Opening.{IsOpenFault, IsOpened, OpensAtNext, IfRefused};
@@ -12,16 +16,16 @@ ghost use Rattle.cell_store.specs.declared.fault.CellOpenFault.TheVariants.{Fail
 ghost use Rattle.cell_store.specs.declared.fault.RecordFault.TheVariants.{Failed as RecordFailed, Memory as RecordMemory};
 ghost use Rattle.cell_store.specs.declared.fault.StoreFault.TheVariants.{Failed as StoreFailed, Memory as StoreMemory};
 
+use crate::opening::replay;
 use crate::state::CellState;
 use crate::{CellOpenFault, RecordFault, StoreFault};
-use claim_types::{Change, LeaseId, Operations, Range};
+use claim_types::{
+    CellEntry, Change, Copied, GREATEST_EPOCH, LeaseId, NoMemory, Operations, Range, Text,
+};
 use disk_journal::{Disk, DiskFailed, Journal};
+use entry_codec::{write_cell, write_row_gone};
 use record_tree::Tree;
 use std::alloc::Global;
-
-// No value: a store is not made yet.
-#[derive(Drop)]
-enum Never {}
 
 /// The records of a cell, its outstanding rows, the ranges that it knows and its epoch, over its journal, which
 /// is kept on the file with the cell's number. The form of its entries is stated in docs/FORMATS.md.
@@ -30,7 +34,50 @@ pub struct CellStore {
     journal: Journal,
     cell: u16,
     state: CellState,
-    never: Never,
+}
+
+// The epoch after one, unless that is the greatest.
+fn epoch_after(epoch: u32) -> Option<u32>
+    ensures some { IfSome result (λ next. (next ≡ epoch + 1) × (next ≤ GREATEST_EPOCH)) }
+    ensures none { IfNone result (epoch ≡ GREATEST_EPOCH) }
+{
+    if epoch == GREATEST_EPOCH {
+        return None;
+    }
+    Some(epoch + 1)
+}
+
+fn copy_of(alloc: Global, change: &Change) -> Result<Change, NoMemory>
+    ensures { IfOk result (λ copied. copied ≡ change.now) }
+{
+    Ok(match change {
+        Change::Create { kind, parent, name } => Change::Create {
+            kind: *kind,
+            parent: *parent,
+            name: name.copy(alloc)?,
+        },
+        Change::Rename { id, name } => Change::Rename {
+            id: *id,
+            name: name.copy(alloc)?,
+        },
+        Change::Remove { id } => Change::Remove { id: *id },
+    })
+}
+
+// The body of the entry of a change and the row of its lease.
+fn recorded_body(
+    alloc: Global,
+    lease: LeaseId,
+    change: &Change,
+    ops: &Operations,
+) -> Result<Text, NoMemory>
+    requires { IsCellEntry (Recorded lease change.now ops.now) }
+    ensures body { IfOk result (λ body. body ≡ cell_entry_bytes (Recorded lease change.now ops.now)) }
+    ensures length { IfOk result IsBody }
+{
+    let change = copy_of(alloc, change)?;
+    let ops = ops.copy(alloc)?;
+    write_cell(alloc, &CellEntry::Recorded { lease, change, ops })
 }
 
 impl CellStore {
@@ -50,7 +97,20 @@ impl CellStore {
         ensures others { TouchesOnly D.Disk cell disk.old disk.new }
         ensures failed { IsErrOf result CellOpenFault.Failed → FailedAt D.Disk cell disk.old disk.new }
     {
-        Err(CellOpenFault::Memory)
+        let opened = Journal::open(alloc, disk, cell)?;
+        let mut state = replay(alloc, cell, opened.bodies.as_slice())?;
+        let Some(epoch) = epoch_after(state.epoch) else {
+            return Err(CellOpenFault::EpochsSpent);
+        };
+        let body = write_cell(alloc, &CellEntry::Epoch { epoch })?;
+        let mut journal = opened.journal;
+        journal.append(disk, body.as_slice())?;
+        state.epoch = epoch;
+        Ok(CellStore {
+            journal,
+            cell,
+            state,
+        })
     }
 
     /// Makes a change and its outstanding row durable together, where the change may be made on the present
@@ -88,7 +148,14 @@ impl CellStore {
         ensures failed { IsErrOf result RecordFault.Failed → FailedAt D.Disk self.old.cell disk.old disk.new }
         ensures others { TouchesOnly D.Disk self.old.cell disk.old disk.new }
     {
-        match self.never {}
+        if !self.state.fits(alloc, change, ops)? {
+            let now = self.state.tree.version();
+            return Err(RecordFault::Changed { then, now });
+        }
+        let body = recorded_body(alloc, lease, change, ops)?;
+        self.state.make(alloc, lease, change, ops.copy(alloc)?)?;
+        self.journal.append(disk, body.as_slice())?;
+        Ok(())
     }
 
     /// Takes the row of a lease away, which takes no memory. Its one error is that a call of the disk failed,
@@ -108,7 +175,10 @@ impl CellStore {
         ensures failed { OnErr result (FailedAt D.Disk self.old.cell disk.old disk.new) }
         ensures others { TouchesOnly D.Disk self.old.cell disk.old disk.new }
     {
-        match self.never {}
+        let body = write_row_gone(lease);
+        self.state.take_row(lease);
+        self.journal.append(disk, &body)?;
+        Ok(())
     }
 
     /// Keeps a range that was given to the cell.
@@ -139,21 +209,30 @@ impl CellStore {
         ensures failed { IsErrOf result StoreFault.Failed → FailedAt D.Disk self.old.cell disk.old disk.new }
         ensures others { TouchesOnly D.Disk self.old.cell disk.old disk.new }
     {
-        match self.never {}
+        let Range {
+            number,
+            low,
+            high,
+            ..
+        } = range;
+        let body = write_cell(alloc, &CellEntry::Got { number, low, high })?;
+        self.state.add_range(range)?;
+        self.journal.append(disk, body.as_slice())?;
+        Ok(())
     }
 
     /// Whether the row of a lease is outstanding.
     pub fn has_row(&self, lease: LeaseId) -> bool
         ensures { result ≡ is_some (map.get (stored self.now).rows lease) }
     {
-        match self.never {}
+        self.state.rows.has(lease)
     }
 
     /// The leases whose rows are outstanding, in order.
     pub fn rows(&self) -> &[LeaseId]
         ensures { result.now ≡ map.keys (stored self.now).rows }
     {
-        match self.never {}
+        self.state.rows.leases()
     }
 
     /// The records.

@@ -68,12 +68,15 @@ Rests g d a = IsAtRest g (store a.store.cell) d (keeper a.store)
 
 -- the entry of what was heard was written down, if it has one, and nothing else
 abbrev pub Writes : {D : Type 0} → Ghosts D → D → D → CellAgent → CellAgent → Heard → Type 0
-Writes g old new before now heard = Appended g (store before.store.cell) old new (keeper before.store) (keeper now.store) heard.entry
+Writes g old new before now heard =
+    Appended g (store before.store.cell) old new (keeper before.store) (keeper now.store) heard.entry
 
 -- at each moment it was written down or not
 abbrev pub WritesAtMost : {D : Type 0} → Ghosts D → D → D → CellAgent → Heard → Type 0
-WritesAtMost g old new before heard = AppendsAtMost g (store before.store.cell) old new (keeper before.store) heard.entry
+WritesAtMost g old new before heard =
+    AppendsAtMost g (store before.store.cell) old new (keeper before.store) heard.entry
 
 -- whether it was is in doubt
 abbrev pub LeavesInDoubt : {D : Type 0} → Ghosts D → D → D → CellAgent → Heard → Type 0
-LeavesInDoubt g old new before heard = LeavesEntryInDoubt g (store before.store.cell) old new (keeper before.store) heard.entry
+LeavesInDoubt g old new before heard =
+    LeavesEntryInDoubt g (store before.store.cell) old new (keeper before.store) heard.entry

@@ -1,5 +1,6 @@
 //! The agent over its store.
-ghost use Rattle.std.specs.Prelude.{◌≡◌, ◌<◌, ◌&&◌, nat_eq, [], ◌∷◌, flat_map, IsTrue, true, false, is_some, Some, None, IfOk, IfSome, OnOk, OnErr, IsErrOf, MatchOption, drop};
+ghost use Rattle.std.specs.Prelude.{◌≡◌, ◌<◌, ◌&&◌, nat_eq, [], ◌∷◌, flat_map, drop, IsTrue, false, is_some, Some};
+ghost use Rattle.std.specs.Prelude.{IfOk, OnOk, OnErr, IsErrOf, MatchOption};
 ghost use Rattle.std.specs.List.{slice_get};
 ghost use Rattle.std.specs.FinMap as map;
 ghost use Rattle.claim_types.specs.Leases.{IsLease};
@@ -9,12 +10,15 @@ ghost use Rattle.claim_types.specs.declared.message.Reply.TheVariants.{Begun, Co
 ghost use Rattle.claim_types.specs.declared.message.BegunResult.TheVariants.{Good, Denied};
 ghost use Rattle.claim_types.specs.declared.message.CommittedResult.TheVariants.{Good as CommittedGood};
 ghost use Rattle.claim_map.specs.Claims.{claims_of};
-ghost use Rattle.claim_laws.specs.Nodes.{attempts_and_rows, next_lease, ask_change, due_attempts, without_attempt, without_attempts, ask_reconcile, ask_range, is_next, requests_for_listed, next_page, hears_page};
+ghost use Rattle.claim_laws.specs.Nodes.{attempts_and_rows, next_lease, ask_change, due_attempts, without_attempt};
+ghost use Rattle.claim_laws.specs.Nodes.{ask_reconcile, ask_range, is_next, requests_for_listed};
 ghost use Rattle.disk_journal.specs.Entries.{TouchesOnly, FailsAt, Untouched};
 ghost use Rattle.record_tree.specs.Answer.{Gives, answer_of};
 ghost use Rattle.record_tree.specs.Paths.{IsPathHolder};
 ghost use Rattle.cell_store.specs.Store.{stored, IsStore, AreRowsEarlier};
-ghost use Rattle.reconciler.specs.Agent.{kept_by, heard_by, IsAgent, IsSameAgent, Answers, IsHeard, Rests, Writes, WritesAtMost, LeavesInDoubt};
+ghost use Rattle.reconciler.specs.Agent.{kept_by, heard_by, IsAgent, IsSameAgent, Answers, IsHeard, Rests};
+ghost use Rattle.reconciler.specs.Agent.{Writes, WritesAtMost, LeavesInDoubt};
+ghost use Rattle.reconciler.specs.Kept.{kept_with};
 ghost use Rattle.reconciler.specs.declared.outcome.AgentFault.TheVariants.{Failed, Memory};
 
 use crate::attempts::Attempts;
@@ -57,8 +61,7 @@ impl CellAgent {
         requires store { IsStore store }
         requires earlier { AreRowsEarlier store }
         ensures store { result.store ≡ store }
-        ensures drawn { (kept_by result).drawn ≡ 0 }
-        ensures pending { (kept_by result).pending ≡ map.empty }
+        ensures kept { kept_by result ≡ kept_with (stored store) map.empty 0 }
         ensures threshold { result.threshold ≡ threshold }
         ensures agent { IsAgent result }
     {
@@ -381,7 +384,7 @@ impl CellAgent {
 
     // Its open leases are listed: what each needs is sent, and then the next page is asked for.
     fn hear_page(&self, alloc: Global, page: &LeasePage) -> Result<Outcome, NoMemory>
-        ensures { IfOk result (IsHeard (hears_page self.now.store.cell (stored self.now.store).tree (kept_by self.now) page.now) self.now) }
+        ensures { IfOk result (IsHeard (heard_by self.now (Leases self.now.store.cell page.now)) self.now) }
     {
         let leases = page.leases.as_slice();
         let mut requests = self.requests_for(alloc, leases)?;

@@ -1,0 +1,5 @@
+pub mod Rows
+pub mod Store
+pub mod Calls
+pub mod Opening
+pub mod Turns

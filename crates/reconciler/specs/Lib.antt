@@ -1,0 +1,4 @@
+pub mod Due
+pub mod Kept
+pub mod Agent
+pub mod Faults

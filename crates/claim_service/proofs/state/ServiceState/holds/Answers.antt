@@ -1,4 +1,4 @@
-use Rattle.std.proofs.Common.{◌≡◌, Bool, true, false, Option, Some, None, option_map, unwrap_or, sym, ◌∙◌, ap, subst}
+use Rattle.std.proofs.Common.{◌≡◌, Bool, false, Option, Some, None, option_map, unwrap_or, sym, ◌∙◌, ap, subst}
 use Rattle.std.specs.Bool.{Decides, IsTrue}
 use Rattle.std.specs.FinMap as map
 use Rattle.std.proofs.lemmas.Option.{same_Some}

@@ -6,6 +6,7 @@ ghost use Rattle.cells_cli.specs.declared.status.Status.TheVariants as status;
 
 use cells_cli::{Status, finish, run};
 use cells_edge::real::{FileSource, StdSink, StdSource};
+use disk_journal::FileDisk;
 use std::env;
 use std::io::{self, ErrorKind};
 use std::process::ExitCode;
@@ -35,8 +36,18 @@ fn main(rt: HostRuntime) -> ExitCode {
     let Ok(words) = words.skip(1).collect::<Vec<String>>(rt.alloc()) else {
         return ExitCode::from(finish(rt.alloc(), Status::Memory, &mut out).code());
     };
+    let Ok(mut disk) = FileDisk::new(&rt, rt.alloc()) else {
+        return ExitCode::from(finish(rt.alloc(), Status::Memory, &mut out).code());
+    };
     let mut config = FileSource::new(&rt, CONFIG);
     let mut script = StdSource::new(rt.stdin());
-    let status = run(rt.alloc(), &words, &mut config, &mut script, &mut out);
+    let status = run(
+        rt.alloc(),
+        &words,
+        &mut config,
+        &mut script,
+        &mut out,
+        &mut disk,
+    );
     ExitCode::from(status.code())
 }

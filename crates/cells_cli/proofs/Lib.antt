@@ -6,3 +6,6 @@ pub mod Answered
 pub mod Reported
 pub mod Texts
 pub mod Bounds
+pub mod Installed
+pub mod Making
+pub mod Distinct

@@ -1,5 +1,5 @@
 -- What a report says, by how its answering stopped.
-use Rattle.std.proofs.Common.{◌≡◌, ◌≢◌, ◌⊎◌, inl, inr, ℕ, zero, suc, ◌+◌, ◌-◌, ◌<◌, ◌||◌, Bool, true, false, cond, nat_lt, nat_le, List, [], ◌∷◌, ◌++◌, take, length, Option, Some, None, Result, Ok, Err, append_assoc, refl, sym, ◌∙◌, ap, subst, arith}
+use Rattle.std.proofs.Common.{◌≡◌, ◌≢◌, ◌⊎◌, inl, inr, ℕ, suc, ◌+◌, ◌-◌, ◌||◌, Bool, true, false, cond, nat_lt, nat_le, List, [], ◌∷◌, ◌++◌, take, length, Option, Some, None, Result, Ok, Err, append_assoc, refl, sym, ◌∙◌, ap, subst, arith}
 use Rattle.std.proofs.lemmas.List.{append-nil}
 use Rattle.cells_edge.specs.Edge.{IsPrefix}
 use Rattle.claim_types.specs.declared.limits.TheConstants.{BODY}
@@ -9,12 +9,14 @@ use Rattle.cells_cli.specs.declared.status.Status.TheVariants.{End, Usage, Confi
 use Rattle.cells_cli.specs.declared.replay.Stop.{Stop}
 use Rattle.cells_cli.specs.declared.replay.Stop.TheVariants.{Script as ScriptStop, ReadFault as ReadStop, WriteFault as WriteStop, Memory as MemoryStop}
 use Rattle.cells_cli.specs.declared.config.ConfigFault.{ConfigFault}
-use Rattle.cells_cli.specs.declared.config.ConfigFault.TheVariants.{Read, Long, Refused, Memory as NoRoom}
+use Rattle.cells_cli.specs.declared.config.ConfigFault.TheVariants.{Read, Long, Refused, NoSuchCell, Memory as NoRoom}
 use Rattle.cells_cli.specs.Lines.{first_refused}
 use Rattle.cells_cli.specs.Service.{Start}
-use Rattle.cells_cli.specs.Config.{Configures, status_of_config}
+use Rattle.cells_cli.specs.Config.{Job, answers_lines, makes_files, Configures, status_of_config}
 use Rattle.cells_cli.specs.Replay.{answers, NoneRefused, IsAnswered}
-use Rattle.cells_cli.specs.Report.{Asked, status_of, last_line, IsServed, IsWhole, IsFront, IsReport, EndsService, EndsAs}
+use Rattle.cells_cli.specs.Status.{last_line}
+use Rattle.cells_cli.specs.Served.{status_of, IsServed, EndsService, EndsAs}
+use Rattle.cells_cli.specs.Report.{Asked, IsWhole, IsFront, IsReport}
 use Rattle.cells_cli.specs.Answering.{EndsAt}
 
 -- the line that is refused is behind lines that are not
@@ -52,7 +54,7 @@ not_write WriteStop other h = other refl
 not_write MemoryStop other h = cc
 
 -- a report that could be written whole is one
-whole_report : (asked : Asked) (status : Status) (report : List ℕ) → status ≢ WriteFault → IsWhole asked.start asked.lines status report → IsReport asked status report
+whole_report : (asked : Asked) (status : Status) (report : List ℕ) → status ≢ WriteFault → IsWhole asked.job asked.lines status report → IsReport asked status report
 whole_report asked End report other h = h
 whole_report asked Usage report other h = h
 whole_report asked (ConfigRegistry n) report other h = h
@@ -71,11 +73,11 @@ whole_report asked Unheard report other h = h
 whole_report asked (EpochsSpent cell) report other h = h
 
 -- a last line behind some bytes, or a front of it
-module _ (asked : Asked) (bytes : List ℕ) (own : Status) (other : own ≢ WriteFault) (whole : IsWhole asked.start asked.lines own (bytes ++ last_line own)) (memory : IsWhole asked.start asked.lines Memory (bytes ++ last_line Memory)) where
-  front_of : (last : Status) (front : List ℕ) → IsWhole asked.start asked.lines last (bytes ++ last_line last) → IsPrefix front (last_line last) → IsFront asked.start asked.lines (bytes ++ front)
+module _ (asked : Asked) (bytes : List ℕ) (own : Status) (other : own ≢ WriteFault) (whole : IsWhole asked.job asked.lines own (bytes ++ last_line own)) (memory : IsWhole asked.job asked.lines Memory (bytes ++ last_line Memory)) where
+  front_of : (last : Status) (front : List ℕ) → IsWhole asked.job asked.lines last (bytes ++ last_line last) → IsPrefix front (last_line last) → IsFront asked.job asked.lines (bytes ++ front)
   front_of last front all is = (last, bytes ++ last_line last, all, (is.0, ap (λ (b : List ℕ). bytes ++ b) is.1 ∙ sym (append_assoc bytes front is.0)))
 
-  front_either : (last : Status) (front : List ℕ) → (last ≡ own) ⊎ (last ≡ Memory) → IsPrefix front (last_line last) → IsFront asked.start asked.lines (bytes ++ front)
+  front_either : (last : Status) (front : List ℕ) → (last ≡ own) ⊎ (last ≡ Memory) → IsPrefix front (last_line last) → IsFront asked.job asked.lines (bytes ++ front)
   front_either last front which is = elim which [
     | inl e ↦ front_of own front whole (subst (λ (s : Status). IsPrefix front (last_line s)) e is)
     | inr e ↦ front_of Memory front memory (subst (λ (s : Status). IsPrefix front (last_line s)) e is)
@@ -105,7 +107,7 @@ module _ (asked : Asked) (bytes : List ℕ) (own : Status) (other : own ≢ Writ
 -- a run that answered lines
 module _ (start : Start) (lines : List (List ℕ)) (bytes : List ℕ) where
   abbrev asked : Asked
-  asked = record { start = Ok start; lines = lines }
+  asked = record { job = Ok (answers_lines start); lines = lines }
 
   some_first : (stop : Stop) → stop ≢ WriteStop → IsAnswered start.registry start.map lines (Err stop) bytes → (n : ℕ) × NoneRefused (take n lines) × (bytes ≡ answers start.registry start.map (take n lines))
   some_first (ScriptStop k) other h = (k - 1, none_first lines k h.0, h.1)
@@ -123,7 +125,7 @@ module _ (start : Start) (lines : List (List ℕ)) (bytes : List ℕ) where
   with_own MemoryStop other h = (h.0, h.1, ap (λ (b : List ℕ). b ++ last_line Memory) h.2)
 
   -- the sink failed in an answer
-  pub fronts : IsAnswered start.registry start.map lines (Err WriteStop) bytes → IsFront (Ok start) lines bytes
+  pub fronts : IsAnswered start.registry start.map lines (Err WriteStop) bytes → IsFront (Ok (answers_lines start)) lines bytes
   fronts h =
       let all = answers start.registry start.map (take h.0 lines) in
       (Memory, all ++ last_line Memory, (h.0, h.1, refl), (h.2.0 ++ last_line Memory, ap (λ (b : List ℕ). b ++ last_line Memory) h.2.1 ∙ append_assoc bytes h.2.0 (last_line Memory)))
@@ -135,35 +137,42 @@ module _ (start : Start) (lines : List (List ℕ)) (bytes : List ℕ) where
   served stop other h before mid now so_far result = reports asked bytes (status_of stop) (not_write stop other) (with_own stop other h) (with_memory stop other h) before mid now so_far result
 
 -- a run that ends before its lines: at what is refused, or at a fault of reading, or for want of memory
-abbrev pub EndsAtOnce : Result Start Status → Status → Type 0
-EndsAtOnce start last = (start ≡ Err last) ⊎ ((last ≡ ReadFault) ⊎ (last ≡ Memory))
+abbrev pub EndsAtOnce : Result Job Status → Status → Type 0
+EndsAtOnce job last = (job ≡ Err last) ⊎ ((last ≡ ReadFault) ⊎ (last ≡ Memory))
 
-only_line : (asked : Asked) (start : Result Start Status) → start ≡ asked.start → (last : Status) → EndsAtOnce start last → IsWhole start asked.lines last ([] ++ last_line last)
-only_line asked (Ok start) is last once = elim once [
+only_line : (asked : Asked) (job : Result Job Status) → job ≡ asked.job → (last : Status) → EndsAtOnce job last → IsWhole job asked.lines last ([] ++ last_line last)
+only_line asked (Ok (answers_lines start)) is last once = elim once [
   | inl apart ↦ absurd cc
-  | inr (inl read) ↦ subst (λ (s : Status). IsWhole (Ok start) asked.lines s (last_line s)) (sym read) (0, refl, refl)
-  | inr (inr memory) ↦ subst (λ (s : Status). IsWhole (Ok start) asked.lines s (last_line s)) (sym memory) (0, refl, refl)
+  | inr (inl read) ↦ subst (λ (s : Status). IsWhole (Ok (answers_lines start)) asked.lines s (last_line s)) (sym read) (0, refl, refl)
+  | inr (inr memory) ↦ subst (λ (s : Status). IsWhole (Ok (answers_lines start)) asked.lines s (last_line s)) (sym memory) (0, refl, refl)
+]
+only_line asked (Ok (makes_files files)) is last once = elim once [
+  | inl apart ↦ absurd cc
+  | inr (inl read) ↦ subst (λ (s : Status). IsWhole (Ok (makes_files files)) asked.lines s (last_line s)) (sym read) refl
+  | inr (inr memory) ↦ subst (λ (s : Status). IsWhole (Ok (makes_files files)) asked.lines s (last_line s)) (sym memory) (0, refl)
 ]
 only_line asked (Err why) is last once = ((elim once [ inl own ↦ inl (let e : why ≡ last = cc in sym e) | inr fault ↦ inr fault ]), refl)
 
-pub at_once : (asked : Asked) (own : Status) → own ≢ WriteFault → EndsAtOnce asked.start own → (before now : List ℕ) (result : Status) → EndsWith own result
+pub at_once : (asked : Asked) (own : Status) → own ≢ WriteFault → EndsAtOnce asked.job own → (before now : List ℕ) (result : Status) → EndsWith own result
     → (result ≢ WriteFault → now ≡ before ++ last_line result)
     → (result ≡ WriteFault → (front : List ℕ) × ((last : Status) × ((last ≡ own) ⊎ (last ≡ Memory)) × IsPrefix front (last_line last)) × (now ≡ before ++ front))
     → (report : List ℕ) × IsReport asked result report × (now ≡ before ++ report)
 at_once asked own other once before now result =
-    reports asked [] own other (only_line asked asked.start refl own once) (only_line asked asked.start refl Memory (inr (inr refl))) before before now (sym (append-nil before)) result
+    reports asked [] own other (only_line asked asked.job refl own once) (only_line asked asked.job refl Memory (inr (inr refl))) before before now (sym (append-nil before)) result
 
--- a configuration that gives no service
-pub config_ends : (fault : ConfigFault) (start : Result Start Status) → Configures (Err fault) start → EndsAtOnce start (status_of_config fault)
-config_ends Read start told = inr (inl refl)
-config_ends Long start told = inl told
-config_ends (Refused n) start told = inl told
-config_ends NoRoom start told = inr (inr refl)
+-- a configuration that gives no work
+pub config_ends : (fault : ConfigFault) (job : Result Job Status) → Configures (Err fault) job → EndsAtOnce job (status_of_config fault)
+config_ends Read job told = inr (inl refl)
+config_ends Long job told = inl told
+config_ends (Refused n) job told = inl told
+config_ends NoSuchCell job told = inl told
+config_ends NoRoom job told = inr (inr refl)
 
 pub config_other : (fault : ConfigFault) → status_of_config fault ≢ WriteFault
 config_other Read h = cc
 config_other Long h = cc
 config_other (Refused n) h = cc
+config_other NoSuchCell h = cc
 config_other NoRoom h = cc
 
 -- which statuses a run with a service may end with, and at what its answering stopped then

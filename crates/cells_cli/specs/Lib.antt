@@ -4,9 +4,13 @@ pub mod Ahead
 pub mod Refused
 pub mod Spans
 pub mod Service
+pub mod Files
+pub mod Making
 pub mod Config
 pub mod Status
 pub mod Stop
 pub mod Replay
 pub mod Answering
+pub mod Served
+pub mod Installed
 pub mod Report

@@ -40,3 +40,7 @@ last_words (BadEntry file index) = codes "bad entry " ++ decimal file ++ 32 ∷ 
 last_words (FileInUse file size) = codes "file in use " ++ decimal file ++ 32 ∷ decimal size
 last_words Unheard = codes "unheard"
 last_words (EpochsSpent cell) = codes "epochs spent " ++ decimal cell
+
+-- the last line, with its end
+abbrev pub last_line : Status → List ℕ
+last_line status = last_words status ++ 10 ∷ []

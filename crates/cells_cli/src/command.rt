@@ -1,16 +1,20 @@
-ghost use Rattle.std.specs.Prelude.{◌≡◌, ◌≢◌, ◌≤◌, ◌⊎◌, IsTrue, IfOk};
+ghost use Rattle.std.specs.Prelude.{◌≡◌, ◌≢◌, ◌≤◌, ◌⊎◌, List, ℕ, IsTrue, IfOk, string_bytes};
 ghost use Rattle.cells_edge.specs.Streams.{WritesAll, WritesFront, SinkFails, SourceFails};
-ghost use Rattle.claim_map.specs.State.{leases_of};
-ghost use Rattle.cells_cli.specs.Config.{command_of, ReadsConfig};
-ghost use Rattle.cells_cli.specs.Service.{map_of, KeepsBounds};
-ghost use Rattle.cells_cli.specs.Report.{last_line, Reports, ReportsService, WritesFrontOf, IsRefused, StartsBy, EndsAs, CouldNotRead, EndsService, Ends};
+ghost use Rattle.cells_cli.specs.Config.{command_of, command_of_one, command_of_two, cell_named as named_by, is_digit as is_digit_byte, is_first_digit as is_first_digit_byte, ReadsConfig, ReadsScript};
+ghost use Rattle.cells_cli.specs.Files.{AreDistinct};
+ghost use Rattle.cells_cli.specs.Installed.{EndsInit, LeavesFiles, DiskFails};
+ghost use Rattle.cells_cli.specs.Report.{Reports, ReportsService, ReportsFiles, Installs, WritesFrontOf, IsRefused, StartsBy, CouldNotRead, Ends, LeavesScript, LeavesDisk};
+ghost use Rattle.cells_cli.specs.Served.{EndsAs, EndsService};
+ghost use Rattle.cells_cli.specs.Service.{KeepsBounds};
+ghost use Rattle.cells_cli.specs.Status.{last_line};
 
-use crate::config::{ConfigFault, service_for};
+use crate::config::{ConfigFault, Work, work_of};
+use crate::init::{InitStop, make_files};
 use crate::replay::{Stop, replay};
 use crate::{Service, Status};
 use cells_base::NoMemory;
 use cells_edge::{Sink, SinkFailed, Source, write_all};
-use claim_types::BODY;
+use disk_journal::Disk;
 use std::alloc::Global;
 
 /// What the words of a command line ask for.
@@ -20,10 +24,14 @@ pub enum Command {
     Replay,
     /// `replay --registry`: the cells of the configuration, none of which was given a range.
     ReplayRegistry,
+    /// `init`: the files of the service and of all cells of the configuration are made.
+    Init,
+    /// `init ID`: the file of this cell alone is made.
+    InitCell { cell: u16 },
 }
 
 impl From<Stop> for Status {
-    ghost use Rattle.cells_cli.specs.Report.{status_of};
+    ghost use Rattle.cells_cli.specs.Served.{status_of};
 
     ghost from_gives = { λ stop status. status ≡ status_of stop };
 
@@ -33,6 +41,21 @@ impl From<Stop> for Status {
             Stop::ReadFault => Status::ReadFault,
             Stop::WriteFault => Status::WriteFault,
             Stop::Memory => Status::Memory,
+        }
+    }
+}
+
+impl From<InitStop> for Status {
+    ghost use Rattle.cells_cli.specs.Installed.{status_of};
+
+    ghost from_gives = { λ stop status. status ≡ status_of stop };
+
+    fn from(stop: InitStop) -> Self {
+        match stop {
+            InitStop::InUse { file, size } => Status::FileInUse { file, size },
+            InitStop::Disk { file } => Status::DiskFault { file },
+            InitStop::WriteFault => Status::WriteFault,
+            InitStop::Memory => Status::Memory,
         }
     }
 }
@@ -47,19 +70,70 @@ impl From<ConfigFault> for Status {
             ConfigFault::Read => Status::ReadFault,
             ConfigFault::Long => Status::ConfigLong,
             ConfigFault::Refused { number } => Status::ConfigRegistry { number },
+            ConfigFault::NoSuchCell => Status::Usage,
             ConfigFault::Memory => Status::Memory,
         }
     }
+}
+
+fn is_digit(byte: u8) -> bool
+    ensures { result ≡ is_digit_byte byte }
+{
+    byte.is_ascii_digit()
+}
+
+// A number does not begin with 0.
+fn is_first_digit(byte: u8) -> bool
+    ensures { result ≡ is_first_digit_byte byte }
+{
+    (b'1'..=b'9').contains(&byte)
+}
+
+// The cell that a word names: one to three digits.
+fn cell_named(word: &[u8]) -> Option<u16>
+    ensures { result ≡ named_by word.now }
+{
+    match *word {
+        [a] if is_first_digit(a) => Some((a - b'0') as u16),
+        [a, b] if is_first_digit(a) && is_digit(b) => {
+            Some(10 * (a - b'0') as u16 + (b - b'0') as u16)
+        }
+        [a, b, c] if is_first_digit(a) && is_digit(b) && is_digit(c) => {
+            Some(100 * (a - b'0') as u16 + 10 * (b - b'0') as u16 + (c - b'0') as u16)
+        }
+        _ => None,
+    }
+}
+
+fn command_of_one(word: &String) -> Option<Command>
+    ensures { result ≡ command_of_one word.now }
+{
+    match word.as_str() {
+        "replay" => Some(Command::Replay),
+        "init" => Some(Command::Init),
+        _ => None,
+    }
+}
+
+fn command_of_two(word: &String, option: &String) -> Option<Command>
+    ensures { result ≡ command_of_two word.now option.now }
+{
+    if word.as_str() == "replay" && option.as_str() == "--registry" {
+        return Some(Command::ReplayRegistry);
+    }
+    if word.as_str() != "init" {
+        return None;
+    }
+    let cell = cell_named(option.as_str().as_bytes())?;
+    Some(Command::InitCell { cell })
 }
 
 fn command_of(words: &[String]) -> Option<Command>
     ensures { result ≡ command_of words.now }
 {
     match words {
-        [word] if word.as_str() == "replay" => Some(Command::Replay),
-        [word, option] if word.as_str() == "replay" && option.as_str() == "--registry" => {
-            Some(Command::ReplayRegistry)
-        }
+        [word] => command_of_one(word),
+        [word, option] => command_of_two(word, option),
         _ => None,
     }
 }
@@ -123,6 +197,22 @@ fn serve<B: Source, W: Sink>(
     }
 }
 
+// The run of a command that makes files.
+fn install<W: Sink, D: Disk>(alloc: Global, files: &[u16], out: &mut W, disk: &mut D) -> Status
+    requires { AreDistinct files.now }
+    ensures report { ReportsFiles W.Sink files.now out.old out.new result }
+    ensures leaves { IsTrue D.tells → LeavesFiles W.Sink D.Disk files.now out.old out.new disk.old disk.new result }
+    ensures write { result ≡ Status.WriteFault → SinkFails W.Sink out.old out.new }
+    ensures disk { DiskFails D.Disk disk.old disk.new result }
+    ensures statuses { EndsInit result }
+{
+    match make_files(alloc, files, out, disk) {
+        Ok(()) => finish(alloc, Status::End, out),
+        Err(InitStop::WriteFault) => Status::WriteFault,
+        Err(stop) => finish(alloc, Status::from(stop), out),
+    }
+}
+
 /// Runs the command that the words say, and answers how it ended; [`Status::code`] is the exit code.
 ///
 /// `replay` answers each line of the script that is not empty by one line: the reply that is due to
@@ -130,34 +220,46 @@ fn serve<B: Source, W: Sink>(
 /// cell; `replay --registry` reads the cells of the configuration first. Whatever ends a run before
 /// the end of its script is named by the last line of the report, but a fault of the sink, which
 /// leaves a front of the report.
-pub fn run<A: Source, B: Source, W: Sink>(
+///
+/// `init` makes the files of the service and of all cells of the configuration, `init ID` that of one
+/// cell: empty journals. All are asked for their sizes first, and where one is in use nothing is done.
+/// It says of each file that it was made, as soon as it was.
+pub fn run<A: Source, B: Source, W: Sink, D: Disk>(
     alloc: Global,
     words: &[String],
     config: &mut A,
     script: &mut B,
     out: &mut W,
+    disk: &mut D,
 ) -> Status
     // what was written
     ensures report { Reports A.Source B.Source W.Sink words.now config.old script.old out.old out.new result }
     ensures refused { IsRefused result → WritesAll W.Sink out.old out.new (last_line result) }
 
+    // what was made
+    ensures made { Installs A.Source W.Sink D.Disk words.now config.old out.old out.new disk.old disk.new result }
+
     // when each status comes; want of memory is free
     ensures start { StartsBy A.Source words.now config.old result }
-    ensures lines { IsTrue B.tells → EndsAs (B.left script.old) (B.left script.new) result }
+    ensures lines { ReadsScript (command_of words.now) → IsTrue B.tells →
+        EndsAs (B.left script.old) (B.left script.new) result }
     ensures read { result ≡ Status.ReadFault → CouldNotRead A.Source B.Source W.Sink words.now config.old config.new
         script.old script.new out.old out.new }
     ensures write { result ≡ Status.WriteFault → SinkFails W.Sink out.old out.new }
+    ensures disk { DiskFails D.Disk disk.old disk.new result }
     ensures statuses { Ends (command_of words.now) result }
 
-    // what is not read
-    ensures script_unread { IsRefused result → script.new ≡ script.old }
+    // what is left alone
+    ensures script_unread { LeavesScript (command_of words.now) result → script.new ≡ script.old }
     ensures config_unread { (ReadsConfig (command_of words.now) → ⊥) → config.new ≡ config.old }
+    ensures disk_unused { LeavesDisk (command_of words.now) result → disk.new ≡ disk.old }
 {
     let Some(command) = command_of(words) else {
         return finish(alloc, Status::Usage, out);
     };
-    match service_for(alloc, command, config) {
-        Ok(service) => serve(alloc, service, script, out),
+    match work_of(alloc, command, config) {
+        Ok(Work::Answer(service)) => serve(alloc, service, script, out),
+        Ok(Work::Make(files)) => install(alloc, &files, out, disk),
         Err(fault) => finish(alloc, Status::from(fault), out),
     }
 }

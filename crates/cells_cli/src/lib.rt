@@ -1,24 +1,29 @@
 //! The program as a library: the commands, what they read and what they write.
 //!
 //! ```text
-//! let status = run(alloc, &words, &mut config, &mut script, &mut out);      // words: ["replay"]
+//! let status = run(alloc, &words, &mut config, &mut script, &mut out, &mut disk);      // words: ["replay"]
 //! exit(status.code())
 //! ```
 //!
 //! `replay` reads requests as lines of JSON and answers each by one line, from a service in memory: one
 //! of a single cell, or with `--registry` one of the cells that a configuration names. Its whole promise
 //! is the contract of [`run`]: what is written is exactly the reply that is due to each line in the claim
-//! map after the earlier lines (`specs/Replay`, over `due` of claim_map), and where a run ends early the
-//! last line names its cause (`specs/Report`). What a run begins with is in `specs/Config`.
+//! map after the earlier lines (`specs/Replay` and `specs/Served`, over `due` of claim_map), and where a run
+//! ends early the last line names its cause (`specs/Report`). What a run is to do is in `specs/Config`.
+//!
+//! `init` makes the files of the service and of all cells, and `init ID` that of one cell, where none of them
+//! is in use. At its end each of them is a journal without a body in whatever a crash leaves, and every other
+//! file is as it was (`specs/Files`, `specs/Installed`).
 //!
 //! The lines come as `specs/Lines` defines them, in whatever pieces the source gives its bytes.
 //!
-//! It stands on `message_json`, `classifier`, `lease_core`, `cell_registry` and `cells_edge`. The caller of
+//! It stands on `message_json`, `claim_service`, `disk_journal`, `cell_registry` and `cells_edge`. The caller of
 //! [`run`] keeps nothing; that of [`finish`] gives a status which is no fault of writing.
 #![tactic(auto)]
 
 mod command;
 mod config;
+mod init;
 mod lines;
 mod replay;
 #[cfg(test)]

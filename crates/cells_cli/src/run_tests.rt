@@ -2,6 +2,7 @@ use crate::*;
 use cells_base::NoMemory;
 use cells_edge::{BytesSink, BytesSource};
 use claim_types::Text;
+use disk_journal::{Disk, FailingCall, MemoryDisk};
 use std::alloc::Global;
 use std::test::Fail;
 
@@ -83,6 +84,12 @@ const RANGES_ANSWERS: &[u8] =
 {\"cell\":4,\"reply\":\"no_cell\"}
 ";
 
+// What a finished `init` leaves of each file.
+const EMPTY: &[u8] = b"cells-journal-01\0";
+
+// Room for the service and three cells.
+const NODES: [u16; 4] = [0, 1, 2, 3];
+
 const PLAIN: &str = "replay";
 
 const REGISTRY: &str = "replay --registry";
@@ -99,6 +106,10 @@ fn words_of(alloc: Global, text: &str) -> Result<Vec<String>, NoMemory> {
     Ok(words)
 }
 
+fn disk_of(alloc: Global) -> Result<MemoryDisk, NoMemory> {
+    MemoryDisk::new(alloc, &NODES, 64, Vec::new(alloc))
+}
+
 // How a run ends whose script comes in pieces of at most so many bytes, and what it writes.
 fn ran(
     alloc: Global,
@@ -111,7 +122,8 @@ fn ran(
     let mut config = source(alloc, config)?;
     let mut script = source(alloc, script)?.in_pieces(most as usize + 1);
     let mut out = BytesSink::new(alloc, 4096)?;
-    let status = run(alloc, &words, &mut config, &mut script, &mut out);
+    let mut disk = disk_of(alloc)?;
+    let status = run(alloc, &words, &mut config, &mut script, &mut out, &mut disk);
     Ok((status, out))
 }
 
@@ -152,6 +164,11 @@ fn refuses_words_and_configurations(rt: HostRuntime) -> Result<(), Fail> {
         ("up now", b"", Status::Usage, 2, b"usage\n"),
         ("replay --cells", CELLS, Status::Usage, 2, b"usage\n"),
         ("replay --registry 1", CELLS, Status::Usage, 2, b"usage\n"),
+        ("init 0", CELLS, Status::Usage, 2, b"usage\n"),
+        ("init 02", CELLS, Status::Usage, 2, b"usage\n"),
+        ("init 1000", CELLS, Status::Usage, 2, b"usage\n"),
+        ("init +1", CELLS, Status::Usage, 2, b"usage\n"),
+        ("init 4", CELLS, Status::Usage, 2, b"usage\n"),
         (
             REGISTRY,
             twice.as_slice(),
@@ -224,7 +241,15 @@ fn names_a_fault_of_reading(rt: HostRuntime) -> Result<(), Fail> {
         let mut config = source(rt.alloc(), CELLS)?.failing_after(config_reads);
         let mut script = source(rt.alloc(), THREE)?.failing_after(script_reads);
         let mut out = BytesSink::new(rt.alloc(), 4096)?;
-        let status = run(rt.alloc(), &words, &mut config, &mut script, &mut out);
+        let mut disk = disk_of(rt.alloc())?;
+        let status = run(
+            rt.alloc(),
+            &words,
+            &mut config,
+            &mut script,
+            &mut out,
+            &mut disk,
+        );
         assert_eq!(rt; status, Status::ReadFault);
         assert_eq!(rt; status.code(), 5);
         assert_eq!(rt; out.written(), b"read fault\n".as_slice());
@@ -241,10 +266,104 @@ fn leaves_a_front_where_writing_fails(rt: HostRuntime) -> Result<(), Fail> {
         let mut out = BytesSink::new(rt.alloc(), 4096)?
             .in_pieces(10)
             .failing_after(passes);
-        let status = run(rt.alloc(), &words, &mut config, &mut script, &mut out);
+        let mut disk = disk_of(rt.alloc())?;
+        let status = run(
+            rt.alloc(),
+            &words,
+            &mut config,
+            &mut script,
+            &mut out,
+            &mut disk,
+        );
         assert_eq!(rt; status, Status::WriteFault);
         assert_eq!(rt; status.code(), 6);
         assert!(rt; THREE_ANSWERS.starts_with(out.written()));
+    }
+    Ok(())
+}
+
+fn contents<D: Disk>(alloc: Global, disk: &mut D, file: u16) -> Result<Vec<u8>, Fail> {
+    let size = disk.size(file)? as usize;
+    let mut bytes = vec![in alloc; 0; size]?;
+    disk.read(file, 0, &mut bytes)?;
+    Ok(bytes)
+}
+
+// How `init` ends on a disk, and what it writes.
+fn installed(
+    alloc: Global,
+    words: &str,
+    disk: &mut MemoryDisk,
+) -> Result<(Status, BytesSink), NoMemory> {
+    let words = words_of(alloc, words)?;
+    let mut config = source(alloc, CELLS)?;
+    let mut script = source(alloc, THREE)?;
+    let mut out = BytesSink::new(alloc, 4096)?;
+    let status = run(alloc, &words, &mut config, &mut script, &mut out, disk);
+    Ok((status, out))
+}
+
+#[test]
+fn makes_the_files_of_an_installation_once(rt: HostRuntime) -> Result<(), Fail> {
+    let alloc = rt.alloc();
+    let mut disk = disk_of(alloc)?;
+    let (status, out) = installed(alloc, "init", &mut disk)?;
+    assert_eq!(rt; status, Status::End);
+    assert_eq!(rt;
+        out.written(),
+        b"made 0\nmade 1\nmade 2\nmade 3\nend\n".as_slice()
+    );
+    for file in NODES {
+        assert_eq!(rt; contents(alloc, &mut disk, file)?.as_slice(), EMPTY);
+    }
+    let (status, out) = installed(alloc, "init", &mut disk)?;
+    assert_eq!(rt; status, Status::FileInUse { file: 0, size: 17 });
+    assert_eq!(rt; status.code(), 10);
+    assert_eq!(rt; out.written(), b"file in use 0 17\n".as_slice());
+    Ok(())
+}
+
+#[test]
+fn makes_the_file_of_one_cell(rt: HostRuntime) -> Result<(), Fail> {
+    let alloc = rt.alloc();
+    let mut disk = disk_of(alloc)?;
+    let (status, out) = installed(alloc, "init 2", &mut disk)?;
+    assert_eq!(rt; status, Status::End);
+    assert_eq!(rt; out.written(), b"made 2\nend\n".as_slice());
+    assert_eq!(rt; contents(alloc, &mut disk, 2)?.as_slice(), EMPTY);
+    let (status, out) = installed(alloc, "init", &mut disk)?;
+    assert_eq!(rt; status, Status::FileInUse { file: 2, size: 17 });
+    assert_eq!(rt; out.written(), b"file in use 2 17\n".as_slice());
+    assert_eq!(rt; disk.size(0), Ok(0));
+    Ok(())
+}
+
+// What is written where the call with this number fails: the four sizes are asked first, and then each file
+// is asked again, written and synced.
+const FAULTS: [(u64, u16, &[u8]); 6] = [
+    (1, 0, b"disk fault 0\n"),
+    (4, 3, b"disk fault 3\n"),
+    (5, 0, b"disk fault 0\n"),
+    (9, 1, b"made 0\ndisk fault 1\n"),
+    (13, 2, b"made 0\nmade 1\ndisk fault 2\n"),
+    (16, 3, b"made 0\nmade 1\nmade 2\ndisk fault 3\n"),
+];
+
+#[test]
+fn names_the_file_on_which_a_call_fails(rt: HostRuntime) -> Result<(), Fail> {
+    let alloc = rt.alloc();
+    for (call, file, want) in FAULTS.iter() {
+        let failing = vec![in alloc;
+            FailingCall {
+                call: *call,
+                done: false
+            },
+        ]?;
+        let mut disk = MemoryDisk::new(alloc, &NODES, 64, failing)?;
+        let (status, out) = installed(alloc, "init", &mut disk)?;
+        assert_eq!(rt; status, Status::DiskFault { file: *file }, "call {call}");
+        assert_eq!(rt; status.code(), 8);
+        assert_eq!(rt; out.written(), *want, "call {call}");
     }
     Ok(())
 }

@@ -3,3 +3,4 @@ pub mod Handling
 pub mod Appending
 pub mod Replaying
 pub mod Opened
+pub mod Configured

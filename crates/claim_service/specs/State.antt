@@ -1,13 +1,16 @@
 -- What the service keeps in memory, and what it makes of what is due to a request.
 use Rattle.std.specs.Prelude.{◌≡◌, ℕ, Bool, List, Option, Some, None, IsTrue, is_some, option_map, unwrap_or, Result, Ok, Err}
+use Rattle.std.specs.FinMap as map
 use Rattle.cells_base.specs.declared.memory.NoMemory.{NoMemory}
 use Rattle.claim_types.specs.declared.entry.ServiceEntry.{ServiceEntry}
 use Rattle.claim_types.specs.declared.entry.ServiceEntry.TheVariants.{Begun, Settled, Given}
+use Rattle.claim_types.specs.declared.lease.How.TheVariants.{Committed, RolledBack}
 use Rattle.claim_types.specs.declared.verdict.Verdict.TheVariants.{Fresh}
 use Rattle.claim_types.specs.declared.message.Request.{Request}
 use Rattle.claim_types.specs.declared.message.Request.TheVariants.{Begin, Commit, Rollback, List as ListRequest, Range as RangeRequest, Claims, Classify, Page}
 use Rattle.claim_map.specs.Due.{Due, due}
 use Rattle.claim_map.specs.Entries.{entry_of}
+use Rattle.claim_map.specs.Ranges.{given_as}
 use Rattle.claim_map.specs.Registry.{Registry, cell_of}
 use Rattle.claim_map.specs.Step.{after_any}
 use Rattle.claim_map.specs.Verdict.{verdict_of}
@@ -67,3 +70,14 @@ turned s entry = unwrap_or (service_turn s entry) s
 abbrev pub IsTurn : Service → ServiceEntry → Result Bool NoMemory → Service → Type 0
 IsTurn before entry (Ok legal) now = (legal ≡ is_some (service_turn before entry)) × (now ≡ turned before entry)
 IsTurn before entry (Err error) now = now ≡ before
+
+-- What a request asks for stands: the lease is open with these operations, it ended so, or the range was given. The other requests ask for nothing that could stand.
+abbrev pub HasEffect : Service → Request → Type 0
+HasEffect s (Begin lease ops) = map.get s.leases.open_leases lease ≡ Some ops
+HasEffect s (Commit lease) = map.get s.leases.settled lease ≡ Some Committed
+HasEffect s (Rollback lease) = map.get s.leases.settled lease ≡ Some RolledBack
+HasEffect s (RangeRequest cell number) = IsTrue (is_some (given_as s.ranges cell number))
+HasEffect s (ListRequest cell after) = ⊥
+HasEffect s (Claims cell bucket first last after) = ⊥
+HasEffect s (Classify question) = ⊥
+HasEffect s (Page cell path named) = ⊥

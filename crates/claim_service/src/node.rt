@@ -1,5 +1,5 @@
 //! The service over its journal.
-ghost use Rattle.std.specs.Prelude.{◌≡◌, IsTrue, IfOk, IfErr, OnOk, IsErrOf};
+ghost use Rattle.std.specs.Prelude.{◌≡◌, ◌↔◌, IsTrue, IfOk, IfErr, OnOk, IsErrOf};
 ghost use Rattle.claim_types.specs.MessageBounds.{IsRequest};
 ghost use Rattle.claim_map.specs.Bounds.{AreCells};
 ghost use Rattle.claim_map.specs.Entries.{entry_of};
@@ -7,7 +7,7 @@ ghost use Rattle.disk_journal.specs.Entries.{Stands, OpensAs, TouchesOnly, Fails
 ghost use Rattle.disk_journal.specs.Effects.{FailedAt};
 ghost use Rattle.claim_service.specs.Opening.{IsOpenFault, KnowsAll};
 ghost use Rattle.claim_service.specs.declared.opening.ServiceOpenFault.TheVariants.{Failed as OpenFailed};
-ghost use Rattle.claim_service.specs.State.{kept, owed};
+ghost use Rattle.claim_service.specs.State.{kept, owed, HasEffect};
 ghost use Rattle.claim_service.specs.Node.{service, IsNode, IsHandled, Rests, Writes, WritesAtMost, LeavesInDoubt};
 ghost use Rattle.claim_service.specs.declared.node.NodeError.TheVariants.{Failed, Memory};
 
@@ -134,6 +134,16 @@ impl TopologyNode {
                 fresh: false,
             }),
         }
+    }
+
+    /// Whether what a request asks for stands: for a begin, its lease is open with these operations; for a
+    /// commit or a rollback, its lease ended so; for a range, it was given. Where a call answered
+    /// [`NodeError::Failed`], this says of the node that was opened again whether the entry stood. It takes
+    /// no memory.
+    pub fn holds(&self, request: &Request) -> bool
+        ensures { IsTrue result ↔ HasEffect (kept self.now.state) request.now }
+    {
+        self.state.holds(request)
     }
 
     /// Who holds each key, and the leases that are open or have ended.

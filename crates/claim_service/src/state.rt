@@ -1,5 +1,5 @@
 //! What the service keeps, in memory: what is due to a request is done there, and written as an entry.
-ghost use Rattle.std.specs.Prelude.{◌≡◌, ◌≤◌, true, [], Ok, Option, None, Some, IfOk, IfSome, IfNone, OnErr, IsTrue, is_none};
+ghost use Rattle.std.specs.Prelude.{◌≡◌, ◌≤◌, ◌↔◌, true, [], Ok, Option, None, Some, IfOk, IfSome, IfNone, OnErr, IsTrue, is_none};
 ghost use Rattle.std.specs.FinMap as map;
 ghost use Rattle.claim_types.specs.Bounds.{IsCell, IsRange, IsRangeNumber, AreOperations};
 ghost use Rattle.claim_types.specs.EntryBounds.{IsServiceEntry};
@@ -10,11 +10,11 @@ ghost use Rattle.claim_types.specs.declared.entry.ServiceEntry.TheVariants.{Begu
 ghost use Rattle.claim_map.specs.Bounds.{AreHeld, IsWithinBounds};
 ghost use Rattle.claim_map.specs.Classification.{class_of};
 ghost use Rattle.claim_map.specs.Due.{begin_due, commit_due, rollback_due, range_due, classify_due, told, key_at, denial_of};
-ghost use Rattle.claim_map.specs.Ranges.{follows, fresh as fresh_range, range_verdict};
+ghost use Rattle.claim_map.specs.Ranges.{follows, given_as, fresh as fresh_range, range_verdict};
 ghost use Rattle.claim_map.specs.Registry.{cell_of};
 ghost use Rattle.claim_map.specs.Verdict.{verdict_of};
 ghost use Rattle.claim_laws.specs.Files.{empty_service, map_of};
-ghost use Rattle.claim_service.specs.State.{kept, owed, Answers, IsJudged, IsTurn, cell_asked, Knows};
+ghost use Rattle.claim_service.specs.State.{kept, owed, Answers, IsJudged, IsTurn, HasEffect, cell_asked, Knows};
 
 use cell_registry::{Asked, RangeFault, Ranges, Registry};
 use claim_types::{
@@ -39,6 +39,16 @@ pub struct ServiceState {
 pub struct Answered {
     pub reply: Reply,
     pub body: Option<Text>,
+}
+
+// The range that a cell was given under a number.
+fn given_as(given: &[Range], cell: u16, number: u64) -> Option<Range>
+    ensures { result ≡ given_as given.now cell number }
+{
+    given
+        .iter()
+        .copied()
+        .find(|range| range.cell == cell && range.number == number)
 }
 
 // A reply for which nothing is written down.
@@ -157,6 +167,25 @@ impl ServiceState {
         ensures { result.now ≡ (kept self.now).ranges }
     {
         &self.ranges
+    }
+
+    /// Whether what a request asks for stands: for a begin, its lease is open with these operations; for a
+    /// commit or a rollback, its lease ended so; for a range, it was given. It takes no memory.
+    pub fn holds(&self, request: &Request) -> bool
+        ensures { IsTrue result ↔ HasEffect (kept self.now) request.now }
+    {
+        match request {
+            Request::Begin { lease, ops } => self.leases.is_same(*lease, ops).unwrap_or(false),
+            Request::Commit { lease } => self.leases.how_ended(*lease) == Some(How::Committed),
+            Request::Rollback { lease } => self.leases.how_ended(*lease) == Some(How::RolledBack),
+            Request::Range { cell, number } => {
+                given_as(self.ranges.list(), *cell, *number).is_some()
+            }
+            Request::List { .. }
+            | Request::Claims { .. }
+            | Request::Classify { .. }
+            | Request::Page { .. } => false,
+        }
     }
 
     fn commit(&mut self, alloc: Global, lease: LeaseId) -> Result<Answered, NoMemory>

@@ -99,8 +99,8 @@ impl Leases {
         self.keys.state(key.bucket, key.value.as_slice())
     }
 
-    // How a lease ended, if it did.
-    pub(crate) fn how_ended(&self, id: LeaseId) -> Option<How>
+    /// How a lease ended, if it did.
+    pub fn how_ended(&self, id: LeaseId) -> Option<How>
         ensures { result ≡ map.get self.now.settled id }
     {
         match self.settled.get(id) {
@@ -109,8 +109,8 @@ impl Leases {
         }
     }
 
-    // Whether a lease that is open is so with these operations.
-    pub(crate) fn is_same(&self, id: LeaseId, ops: &Operations) -> Option<bool>
+    /// Whether a lease that is open is so with these operations; nothing of one that is not open.
+    pub fn is_same(&self, id: LeaseId, ops: &Operations) -> Option<bool>
         ensures { result ≡ option_map (λ mine. operations_eq mine ops.now) (map.get self.now.open_leases id) }
     {
         match self.open_leases.get(id) {

@@ -1,5 +1,4 @@
 use Rattle.std.proofs.Common.{◌≡◌, ◌≤◌, ◌++◌, ◌-◌, IsTrue, take, drop}
-use Rattle.claim_map.specs.State.{leases_of}
 use Rattle.cells_cli.specs.Lines.{lines_of, first_refused}
 use Rattle.cells_cli.specs.Service.{map_of, KeepsBounds}
 use Rattle.cells_cli.specs.Replay.{answers, after_lines, NoneRefused}

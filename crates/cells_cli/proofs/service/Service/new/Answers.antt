@@ -1,7 +1,8 @@
 use Rattle.std.proofs.Common.{sym, subst}
 use Rattle.claim_laws.specs.Files.{Service, map_of as kept_map}
 use Rattle.claim_map.specs.Bounds.{IsWithinBounds}
-use Rattle.cells_cli.proofs.Bounds.{legal_cells, nothing_given}
+use Rattle.claim_service.proofs.Configured.{legal_cells}
+use Rattle.cells_cli.proofs.Bounds.{nothing_given}
 use Rattle.cells_cli.proofs.service.Service.new.Goals as goal
 
 pub returns-clause-bounds : goal.returns-clause-bounds

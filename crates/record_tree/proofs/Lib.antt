@@ -19,3 +19,5 @@ pub mod May
 pub mod Applied
 pub mod Listed
 pub mod Within
+pub mod Used
+pub mod Added

@@ -12,3 +12,4 @@ pub mod Paths
 pub mod Unique
 pub mod Follows
 pub mod Listed
+pub mod Adding

@@ -81,7 +81,8 @@ fn unless(rules: Result<(), Rule>, operations: Operations) -> Result<Operations,
     }
 }
 
-fn one_created(alloc: Global, claim: Create) -> Result<Operations, NoMemory>
+/// The operations that create one claim.
+pub fn one_created(alloc: Global, claim: Create) -> Result<Operations, NoMemory>
     ensures { IfOk result (λ ops. ops ≡ record { creates = claim ∷ []; destroys = [] }) }
 {
     let mut creates = Creates::new(alloc);

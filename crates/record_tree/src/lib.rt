@@ -16,7 +16,8 @@
 //! Promised: contracts see [`Tree`] as the tree of `claim_map`'s `specs/State`. The operations are those
 //! of its `specs/Claims`, which compare the claims of two whole trees; the rules are those of its
 //! `specs/Rules`, in their order, but for the one on attempts and rows, which is the cell's own; the tree
-//! after a change is that of its `specs/Records`. After want of memory a tree is as it was.
+//! after a change is that of its `specs/Records`. [`Tree::add`] adds a record as it is, exactly where
+//! `specs/Adding` says that it may be added. After want of memory a tree is as it was.
 //!
 //! It stands on records in order of identifier, where each parent has a lower one, so a rename passes
 //! each record behind its own once and a route is found by climbing; and on a hash table for each
@@ -26,6 +27,7 @@
 //! among the first identifiers of them that the tree has used (`specs/Known`).
 #![tactic(auto)]
 
+mod adding;
 mod apply;
 mod changes;
 mod index;

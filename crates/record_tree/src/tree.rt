@@ -1,11 +1,13 @@
 //! The tree of a cell's records, with the index of their keys.
-ghost use Rattle.std.specs.Prelude.{◌≡◌, ◌+◌, ◌<◌, ◌^◌, [], ◌∷◌, ◌++◌, length, slice_set, slice_index_or, None, IfOk, OnOk, OnErr};
+ghost use Rattle.std.specs.Prelude.{◌≡◌, ◌+◌, ◌<◌, ◌^◌, ◌↔◌, IsTrue, [], ◌∷◌, ◌++◌, length, slice_set, slice_index_or, None, IfOk, OnOk, OnErr};
 ghost use Rattle.std.specs.List.{remove as list_without};
 ghost use Rattle.claim_types.specs.declared.record.Record.{Record as TheRecord};
 ghost use Rattle.claim_map.specs.State.{empty_tree};
 ghost use Rattle.claim_map.specs.Claims.{claims_of};
 ghost use Rattle.claim_map.specs.Records.{changed_by};
 ghost use Rattle.claim_map.specs.Rules.{rule_of};
+ghost use Rattle.claim_map.specs.Trees.{AreRising};
+ghost use Rattle.record_tree.specs.Adding.{MayBeAdded, with_added, after_adding};
 ghost use Rattle.record_tree.specs.Answer.{Gives, answer_of};
 ghost use Rattle.record_tree.specs.Follows.{MayFollow};
 ghost use Rattle.record_tree.specs.Known.{IsWithin};
@@ -13,6 +15,7 @@ ghost use Rattle.record_tree.specs.Listed.{claim_items};
 ghost use Rattle.record_tree.specs.Paths.{IsPathHolder};
 ghost use Rattle.record_tree.specs.Refusals.{claimant};
 
+use crate::adding::adding;
 use crate::apply::{put_record, remove_record, rename_record};
 use crate::changes::{create, remove, rename};
 use crate::listing;
@@ -152,6 +155,16 @@ impl Tree {
     }
 
     // Puts a record behind the others, where these are the operations of that.
+    fn put_behind(&mut self, alloc: Global, ops: &Operations, item: Record) -> Result<(), NoMemory>
+        requires { MayFollow self.old.records (self.old.records ++ item ∷ []) ops.now }
+        ensures ok { OnOk result (self.new ≡ with_added self.old item) }
+        ensures err { OnErr result (self.new ≡ self.old) }
+    {
+        put_record(alloc, &mut self.records, &mut self.index, ops, item)?;
+        Ok(())
+    }
+
+    // Puts a record of a change behind the others.
     fn push(
         &mut self,
         alloc: Global,
@@ -165,7 +178,7 @@ impl Tree {
         ensures ok { OnOk result (self.new ≡ record { records = self.old.records ++ item ∷ []; used = self.old.used + 1; version = self.old.version + 1 }) }
         ensures err { OnErr result (self.new ≡ self.old) }
     {
-        put_record(alloc, &mut self.records, &mut self.index, ops, item)?;
+        self.put_behind(alloc, ops, item)?;
         self.used += 1;
         self.version = version;
         Ok(())
@@ -208,6 +221,24 @@ impl Tree {
         remove_record(alloc, &mut self.records, &mut self.index, ops, at)?;
         self.version = version;
         Ok(())
+    }
+
+    /// Adds a record as it is behind the others: one whose identifier was used and is above theirs, whose
+    /// parent is of an allowed kind or 0 for an organization, and whose key is within its grammar and
+    /// claimed by none. Ok(true) says that it was added; else, and after want of memory, nothing changed.
+    pub fn add(&mut self, alloc: Global, item: Record, known: &[Range]) -> Result<bool, NoMemory>
+        requires { AreRising 0 known.now }
+        ensures answer { IfOk result (λ added.
+            IsTrue added ↔ MayBeAdded self.old.records self.old.used known.now item) }
+        ensures after { IfOk result (λ added. self.new ≡ after_adding added self.old item) }
+        ensures err { OnErr result (self.new ≡ self.old) }
+    {
+        let records = self.records.as_slice();
+        let Some(operations) = adding(alloc, records, &self.index, self.used, known, &item)? else {
+            return Ok(false);
+        };
+        self.put_behind(alloc, &operations, item)?;
+        Ok(true)
     }
 
     /// Makes a change that no rule speaks against. After want of memory the tree is as it was.

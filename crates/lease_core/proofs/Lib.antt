@@ -14,3 +14,4 @@ mod First
 mod Parting
 mod InOrder
 mod LeasePages
+mod Covering

@@ -1,4 +1,4 @@
-ghost use Rattle.std.specs.Prelude.{◌≡◌, ◌+◌, ◌<◌, ◌≤◌, ◌^◌, Option, Some, None, option_map, [], length, take, slice_index_or};
+ghost use Rattle.std.specs.Prelude.{◌≡◌, ◌+◌, ◌<◌, ◌≤◌, ◌^◌, ◌&&◌, nat_eq, nat_le, Option, Some, None, option_map, [], length, take, slice_index_or};
 ghost use Rattle.std.specs.List.{list_any, find};
 ghost use Rattle.std.specs.FinMap as map;
 ghost use Rattle.claim_types.specs.Order.{key_eq};
@@ -43,10 +43,22 @@ fn wrong_number(ops: &Operations) -> Option<Refusal>
     None
 }
 
-// Whether an identifier lies in a range of the cell.
+// Whether a range is of the cell and has the identifier.
+fn has(range: &Range, cell: u16, id: u64) -> bool
+    ensures { result ≡ (nat_eq range.now.cell cell && (nat_le range.now.low id && nat_le id range.now.high)) }
+{
+    range.cell == cell && (range.low <= id && id <= range.high)
+}
+
+// Whether an identifier lies in a range of the cell. Ranges that were given ascend, so the one that
+// halving finds is looked at first.
 fn covers(given: &[Range], cell: u16, id: u64) -> bool
     ensures { result ≡ covers_id given.now cell id }
 {
+    let place = given.partition_point(|range| range.high < id);
+    if place < given.len() && has(&given[place], cell, id) {
+        return true;
+    }
     given
         .iter()
         .filter(|range| range.cell == cell)

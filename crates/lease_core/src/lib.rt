@@ -9,6 +9,7 @@
 //! leases.commit(lease)?;                        // true: its cell holds the created keys
 //! leases.commit(lease)?;                        // false: it was committed before
 //! leases.holder(&key);                          // Some(Holding { cell, subject, origin })
+//! leases.by_row();                              // the places of all claims, in order
 //! ```
 //!
 //! Promised: each call is exactly a step of the claim map or none, and says which. The verdict of

@@ -102,9 +102,9 @@ impl CellStore {
         let Some(epoch) = epoch_after(state.epoch) else {
             return Err(CellOpenFault::EpochsSpent);
         };
-        let body = write_cell(alloc, &CellEntry::Epoch { epoch })?;
+        let epoch_body = write_cell(alloc, &CellEntry::Epoch { epoch })?;
         let mut journal = opened.journal;
-        journal.append(disk, body.as_slice())?;
+        journal.append(disk, epoch_body.as_slice())?;
         state.epoch = epoch;
         Ok(CellStore {
             journal,
@@ -152,9 +152,9 @@ impl CellStore {
             let now = self.state.tree.version();
             return Err(RecordFault::Changed { then, now });
         }
-        let body = recorded_body(alloc, lease, change, ops)?;
+        let change_body = recorded_body(alloc, lease, change, ops)?;
         self.state.make(alloc, lease, change, ops.copy(alloc)?)?;
-        self.journal.append(disk, body.as_slice())?;
+        self.journal.append(disk, change_body.as_slice())?;
         Ok(())
     }
 
@@ -175,9 +175,9 @@ impl CellStore {
         ensures failed { OnErr result (FailedAt D.Disk self.old.cell disk.old disk.new) }
         ensures others { TouchesOnly D.Disk self.old.cell disk.old disk.new }
     {
-        let body = write_row_gone(lease);
+        let row_body = write_row_gone(lease);
         self.state.take_row(lease);
-        self.journal.append(disk, &body)?;
+        self.journal.append(disk, &row_body)?;
         Ok(())
     }
 
@@ -215,9 +215,9 @@ impl CellStore {
             high,
             ..
         } = range;
-        let body = write_cell(alloc, &CellEntry::Got { number, low, high })?;
+        let range_body = write_cell(alloc, &CellEntry::Got { number, low, high })?;
         self.state.add_range(range)?;
-        self.journal.append(disk, body.as_slice())?;
+        self.journal.append(disk, range_body.as_slice())?;
         Ok(())
     }
 

@@ -44,17 +44,17 @@ returns-in_default-clause-unwritten g c = opens_before g.D.Disk c.args.cell c.ar
 pub returns-in_default-clause-any_moment : goal.returns-in_default-clause-any_moment
 returns-in_default-clause-any_moment g c = opens_to_before g.D.Disk c.args.cell c.args.disk.now c.open.new.disk c.open.ensures.any_moment
 
-pub returns-in_err-body-clause-unwritten : goal.returns-in_err-body-clause-unwritten
-returns-in_err-body-clause-unwritten g c = if_refused c.from_residual-in_err-body.result (opens_before g.D.Disk c.args.cell c.args.disk.now c.open.new.disk c.open.ensures.any_moment)
+pub returns-in_err-epoch_body-clause-unwritten : goal.returns-in_err-epoch_body-clause-unwritten
+returns-in_err-epoch_body-clause-unwritten g c = if_refused c.from_residual-in_err-epoch_body.result (opens_before g.D.Disk c.args.cell c.args.disk.now c.open.new.disk c.open.ensures.any_moment)
 
-pub returns-in_err-body-clause-any_moment : goal.returns-in_err-body-clause-any_moment
-returns-in_err-body-clause-any_moment g c = opens_to_before g.D.Disk c.args.cell c.args.disk.now c.open.new.disk c.open.ensures.any_moment
+pub returns-in_err-epoch_body-clause-any_moment : goal.returns-in_err-epoch_body-clause-any_moment
+returns-in_err-epoch_body-clause-any_moment g c = opens_to_before g.D.Disk c.args.cell c.args.disk.now c.open.new.disk c.open.ensures.any_moment
 
 pub returns-in_err-append-clause-any_moment : goal.returns-in_err-append-clause-any_moment
 returns-in_err-append-clause-any_moment g c =
     let s = kept c.in_ok-state.state in
     let within = subst (λ n. n ≤ GREATEST_EPOCH) c.in-Some.ensures.some.0 c.in-Some.ensures.some.1 in
-    let spelled = c.as_slice-2.ensures ∙ c.in_ok-body.ensures.body ∙ ap (λ n. cell_entry_bytes (Epoch n)) c.in-Some.ensures.some.0 in
+    let spelled = c.as_slice-2.ensures ∙ c.in_ok-epoch_body.ensures.body ∙ ap (λ n. cell_entry_bytes (Epoch n)) c.in-Some.ensures.some.0 in
     let read = λ (tells : IsTrue g.D.Disk.tells). subst (λ (bs : List (List ℕ)). HasBodies (g.D.Disk.seen c.args.disk.now) c.args.cell bs) (sym c.as_slice.ensures) (c.in_ok-opened.ensures.bodies tells) in
     let settled = λ (tells : IsTrue g.D.Disk.tells). subst (λ (bs : List (List ℕ)). IsSettled g.D.Disk c.open.new.disk c.in_ok-opened.opened.journal bs) (sym c.as_slice.ensures) (c.in_ok-opened.ensures.settled tells) in
     opens_to_next g.D.Disk c.args.cell c.args.disk.now c.open.new.disk c.open.ensures.any_moment c.append.new.disk c.in_ok-opened.opened.journal c.in_ok-opened.ensures.file
@@ -79,7 +79,7 @@ pub returns-clause-store : goal.returns-clause-store
 returns-clause-store g c =
     let s = kept c.in_ok-state.state in
     let within = subst (λ n. n ≤ GREATEST_EPOCH) c.in-Some.ensures.some.0 c.in-Some.ensures.some.1 in
-    let spelled = c.as_slice-2.ensures ∙ c.in_ok-body.ensures.body ∙ ap (λ n. cell_entry_bytes (Epoch n)) c.in-Some.ensures.some.0 in
+    let spelled = c.as_slice-2.ensures ∙ c.in_ok-epoch_body.ensures.body ∙ ap (λ n. cell_entry_bytes (Epoch n)) c.in-Some.ensures.some.0 in
     let now : kept (record { epoch = c.in-Some.epoch; tree = c.in_ok-state.state.tree; rows = c.in_ok-state.state.rows; known = c.in_ok-state.state.known }) ≡ next_epoch (kept c.in_ok-state.state) = ap (λ n. record (kept c.in_ok-state.state) { epoch = n }) c.in-Some.ensures.some.0 in
     is_opened c.args.cell c.requires c.as_slice.result.now s c.in_ok-state.ensures within c.append.new.self
     (record { epoch = c.in-Some.epoch; tree = c.in_ok-state.state.tree; rows = c.in_ok-state.state.rows; known = c.in_ok-state.state.known }) (c.append.ensures.file ∙ c.in_ok-opened.ensures.file) now
@@ -88,7 +88,7 @@ pub returns-clause-at_rest : goal.returns-clause-at_rest
 returns-clause-at_rest g c =
     let s = kept c.in_ok-state.state in
     let within = subst (λ n. n ≤ GREATEST_EPOCH) c.in-Some.ensures.some.0 c.in-Some.ensures.some.1 in
-    let spelled = c.as_slice-2.ensures ∙ c.in_ok-body.ensures.body ∙ ap (λ n. cell_entry_bytes (Epoch n)) c.in-Some.ensures.some.0 in
+    let spelled = c.as_slice-2.ensures ∙ c.in_ok-epoch_body.ensures.body ∙ ap (λ n. cell_entry_bytes (Epoch n)) c.in-Some.ensures.some.0 in
     let now : kept (record { epoch = c.in-Some.epoch; tree = c.in_ok-state.state.tree; rows = c.in_ok-state.state.rows; known = c.in_ok-state.state.known }) ≡ next_epoch (kept c.in_ok-state.state) = ap (λ n. record (kept c.in_ok-state.state) { epoch = n }) c.in-Some.ensures.some.0 in
     let read = λ (tells : IsTrue g.D.Disk.tells). subst (λ (bs : List (List ℕ)). HasBodies (g.D.Disk.seen c.args.disk.now) c.args.cell bs) (sym c.as_slice.ensures) (c.in_ok-opened.ensures.bodies tells) in
     let settled = λ (tells : IsTrue g.D.Disk.tells). subst (λ (bs : List (List ℕ)). IsSettled g.D.Disk c.open.new.disk c.in_ok-opened.opened.journal bs) (sym c.as_slice.ensures) (c.in_ok-opened.ensures.settled tells) in
@@ -101,7 +101,7 @@ pub returns-clause-any_moment : goal.returns-clause-any_moment
 returns-clause-any_moment g c =
     let s = kept c.in_ok-state.state in
     let within = subst (λ n. n ≤ GREATEST_EPOCH) c.in-Some.ensures.some.0 c.in-Some.ensures.some.1 in
-    let spelled = c.as_slice-2.ensures ∙ c.in_ok-body.ensures.body ∙ ap (λ n. cell_entry_bytes (Epoch n)) c.in-Some.ensures.some.0 in
+    let spelled = c.as_slice-2.ensures ∙ c.in_ok-epoch_body.ensures.body ∙ ap (λ n. cell_entry_bytes (Epoch n)) c.in-Some.ensures.some.0 in
     let read = λ (tells : IsTrue g.D.Disk.tells). subst (λ (bs : List (List ℕ)). HasBodies (g.D.Disk.seen c.args.disk.now) c.args.cell bs) (sym c.as_slice.ensures) (c.in_ok-opened.ensures.bodies tells) in
     let settled = λ (tells : IsTrue g.D.Disk.tells). subst (λ (bs : List (List ℕ)). IsSettled g.D.Disk c.open.new.disk c.in_ok-opened.opened.journal bs) (sym c.as_slice.ensures) (c.in_ok-opened.ensures.settled tells) in
     opens_to_next g.D.Disk c.args.cell c.args.disk.now c.open.new.disk c.open.ensures.any_moment c.append.new.disk c.in_ok-opened.opened.journal c.in_ok-opened.ensures.file

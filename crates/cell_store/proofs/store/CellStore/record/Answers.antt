@@ -13,8 +13,8 @@ pub returns-then-not-branch-clause-any_moment : goal.returns-then-not-branch-cla
 returns-then-not-branch-clause-any_moment g c =
     writes_nothing c.args.self.now c.requires.store g.D.Disk c.args.disk.now (Recorded c.args.lease c.args.change.now c.args.ops.now) g.met.D.Disk.only_now
 
-pub returns-in_err-body-clause-any_moment : goal.returns-in_err-body-clause-any_moment
-returns-in_err-body-clause-any_moment g c =
+pub returns-in_err-change_body-clause-any_moment : goal.returns-in_err-change_body-clause-any_moment
+returns-in_err-change_body-clause-any_moment g c =
     writes_nothing c.args.self.now c.requires.store g.D.Disk c.args.disk.now (Recorded c.args.lease c.args.change.now c.args.ops.now) g.met.D.Disk.only_now
 
 pub returns-in_err-copy-clause-any_moment : goal.returns-in_err-copy-clause-any_moment
@@ -48,7 +48,7 @@ returns-in_err-append-clause-any_moment g c =
     let ops = c.args.ops.now in
     let fits = sym c.in_ok-fits.ensures ∙ c.if-not-branch.false in
     writes_at_most self c.requires.store g.D.Disk c.args.disk.now c.append.new.disk (Recorded c.args.lease change ops) (with_record (stored self) c.args.lease change ops)
-    (made_entry self c.requires.store c.args.lease c.requires.lease change ops fits) (made_turns self c.requires.store c.args.lease c.requires.lease change ops fits) c.as_slice.result.now (c.as_slice.ensures ∙ c.in_ok-body.ensures.body) c.append.ensures.any_moment
+    (made_entry self c.requires.store c.args.lease c.requires.lease change ops fits) (made_turns self c.requires.store c.args.lease c.requires.lease change ops fits) c.as_slice.result.now (c.as_slice.ensures ∙ c.in_ok-change_body.ensures.body) c.append.ensures.any_moment
 
 pub returns-in_err-append-clause-in_doubt : goal.returns-in_err-append-clause-in_doubt
 returns-in_err-append-clause-in_doubt g c =
@@ -57,7 +57,7 @@ returns-in_err-append-clause-in_doubt g c =
     let ops = c.args.ops.now in
     let fits = sym c.in_ok-fits.ensures ∙ c.if-not-branch.false in
     λ failed. left_in_doubt self c.requires.store g.D.Disk c.args.disk.now c.append.new.disk (Recorded c.args.lease change ops) (with_record (stored self) c.args.lease change ops)
-    (made_entry self c.requires.store c.args.lease c.requires.lease change ops fits) (made_turns self c.requires.store c.args.lease c.requires.lease change ops fits) c.as_slice.result.now (c.as_slice.ensures ∙ c.in_ok-body.ensures.body) c.in_err-append.ensures.in_doubt
+    (made_entry self c.requires.store c.args.lease c.requires.lease change ops fits) (made_turns self c.requires.store c.args.lease c.requires.lease change ops fits) c.as_slice.result.now (c.as_slice.ensures ∙ c.in_ok-change_body.ensures.body) c.in_err-append.ensures.in_doubt
 
 pub returns-in_err-append-clause-others : goal.returns-in_err-append-clause-others
 returns-in_err-append-clause-others g c =
@@ -78,7 +78,7 @@ returns-clause-any_moment g c =
     let ops = c.args.ops.now in
     let fits = sym c.in_ok-fits.ensures ∙ c.if-not-branch.false in
     writes_at_most self c.requires.store g.D.Disk c.args.disk.now c.append.new.disk (Recorded c.args.lease change ops) (with_record (stored self) c.args.lease change ops)
-    (made_entry self c.requires.store c.args.lease c.requires.lease change ops fits) (made_turns self c.requires.store c.args.lease c.requires.lease change ops fits) c.as_slice.result.now (c.as_slice.ensures ∙ c.in_ok-body.ensures.body) c.append.ensures.any_moment
+    (made_entry self c.requires.store c.args.lease c.requires.lease change ops fits) (made_turns self c.requires.store c.args.lease c.requires.lease change ops fits) c.as_slice.result.now (c.as_slice.ensures ∙ c.in_ok-change_body.ensures.body) c.append.ensures.any_moment
 
 pub returns-clause-written : goal.returns-clause-written
 returns-clause-written g c =
@@ -87,7 +87,7 @@ returns-clause-written g c =
     let ops = c.args.ops.now in
     let fits = sym c.in_ok-fits.ensures ∙ c.if-not-branch.false in
     writes self c.requires.store g.D.Disk c.args.disk.now c.append.new.disk (Recorded c.args.lease change ops) (with_record (stored self) c.args.lease change ops)
-    (made_entry self c.requires.store c.args.lease c.requires.lease change ops fits) (made_turns self c.requires.store c.args.lease c.requires.lease change ops fits) c.as_slice.result.now (c.as_slice.ensures ∙ c.in_ok-body.ensures.body)
+    (made_entry self c.requires.store c.args.lease c.requires.lease change ops fits) (made_turns self c.requires.store c.args.lease c.requires.lease change ops fits) c.as_slice.result.now (c.as_slice.ensures ∙ c.in_ok-change_body.ensures.body)
     c.append.new.self c.make.new.self (c.in_ok-make.ensures.ok ∙ ap (λ o. with_record (stored self) c.args.lease change o) c.in_ok-copy.ensures) c.in_ok-append.ensures.live c.in_ok-append.ensures.adds
 
 pub returns-clause-others : goal.returns-clause-others

@@ -35,7 +35,8 @@ fn overlap(a: &[u8], b: &[u8]) -> bool
 
 // The first of these cells whose prefix and that of a cell before them overlap.
 fn overlap_behind(cell: &Cell, others: &[Cell]) -> Option<RegistryFault>
-    ensures { result ≡ option_map (λ d. PrefixOverlap cell.now.id d.id) (find (λ d. spec.overlap cell.now.prefix d.prefix) others.now) }
+    ensures { result ≡ option_map (λ d. PrefixOverlap cell.now.id d.id) (find
+        (λ d. spec.overlap cell.now.prefix d.prefix) others.now) }
 {
     others
         .iter()

@@ -44,117 +44,119 @@ fn fault_of(alloc: Global, text: &[u8]) -> Option<RegistryFault> {
     }
 }
 
+// Configurations, the fault that each is refused for, and its number.
+const FAULTS: [(&[u8], RegistryFault, u8); 24] = [
+    (b"\xff", RegistryFault::Text, 1),
+    (b"[cell", RegistryFault::Text, 1),
+    (
+        b"service = { threshold = 99999999999999999999 }\n",
+        RegistryFault::Text,
+        1,
+    ),
+    (
+        b"cell = [1, 1, 1, 1, 1, 1, 1, 1, 1, 1, 1, 1, 1, 1, 1, 1, 1]",
+        RegistryFault::TooManyCells,
+        2,
+    ),
+    (
+        b"cell = [1, 1, 1, 1, 1, 1, 1, 1, 1, 1, 1, 1, 1, 1, 1, 1]",
+        RegistryFault::Missing { name: Name::Id },
+        3,
+    ),
+    (b"", RegistryFault::Missing { name: Name::Cell }, 3),
+    (b"cell = 3", RegistryFault::Missing { name: Name::Cell }, 3),
+    (b"cell = []", RegistryFault::Missing { name: Name::Cell }, 3),
+    (
+        b"[cell]\nid = 1",
+        RegistryFault::Missing { name: Name::Cell },
+        3,
+    ),
+    (
+        b"cell = [{ id = '1', prefix = 'a', width = 1 }]",
+        RegistryFault::Missing { name: Name::Id },
+        3,
+    ),
+    (
+        b"cell = [{ id = 1, width = 1 }]",
+        RegistryFault::Missing { name: Name::Prefix },
+        3,
+    ),
+    (
+        b"service = { threshold = 0 }\ncell = [{ id = 0, prefix = 'a', width = 1 }, { id = 1, prefix = 'b' }]",
+        RegistryFault::Missing { name: Name::Width },
+        3,
+    ),
+    (
+        b"service = 3\ncell = [{ id = 1, prefix = 'a', width = 1 }]",
+        RegistryFault::BadValue {
+            name: Name::Threshold,
+        },
+        4,
+    ),
+    (
+        b"service = { threshold = '600' }\ncell = [{ id = 0, prefix = 'a', width = 1 }]",
+        RegistryFault::BadValue {
+            name: Name::Threshold,
+        },
+        4,
+    ),
+    (
+        b"service = { threshold = 86401 }\ncell = [{ id = 1, prefix = 'a', width = 1 }]",
+        RegistryFault::BadValue {
+            name: Name::Threshold,
+        },
+        4,
+    ),
+    (
+        b"cell = [{ id = 1000, prefix = 'A', width = 1 }]",
+        RegistryFault::BadValue { name: Name::Id },
+        4,
+    ),
+    (
+        b"cell = [{ id = -1, prefix = 'a', width = 1 }]",
+        RegistryFault::BadValue { name: Name::Id },
+        4,
+    ),
+    (
+        b"cell = [{ id = 1, prefix = '', width = 1 }]",
+        RegistryFault::BadValue { name: Name::Prefix },
+        4,
+    ),
+    (
+        b"cell = [{ id = 1, prefix = 'A', width = 0 }]",
+        RegistryFault::BadValue { name: Name::Prefix },
+        4,
+    ),
+    (
+        b"cell = [{ id = 1, prefix = 'aaaaaaaaaaaaaaaaaaaaaaaaaaaaaaaaa', width = 1 }]",
+        RegistryFault::BadValue { name: Name::Prefix },
+        4,
+    ),
+    (
+        b"cell = [{ id = 1, prefix = 'a', width = 1 }, { id = 1, prefix = 'a', width = 0 }]",
+        RegistryFault::BadValue { name: Name::Width },
+        4,
+    ),
+    (
+        b"cell = [{ id = 2, prefix = 'a', width = 1 }, { id = 1, prefix = 'a', width = 1 }, { id = 1, prefix = 'b', width = 1 }]",
+        RegistryFault::Duplicate { id: 1 },
+        5,
+    ),
+    (
+        b"cell = [{ id = 2, prefix = 'ab', width = 1 }, { id = 1, prefix = 'b', width = 1 }, { id = 3, prefix = 'a', width = 1 }]",
+        RegistryFault::PrefixOverlap { a: 2, b: 3 },
+        6,
+    ),
+    (
+        b"cell = [{ id = 9, prefix = 'a', width = 1 }, { id = 8, prefix = 'b', width = 1 }, { id = 7, prefix = 'b', width = 1 }, { id = 6, prefix = 'ac', width = 1 }]",
+        RegistryFault::PrefixOverlap { a: 9, b: 6 },
+        6,
+    ),
+];
+
 #[test]
 fn names_the_first_fault_of_the_first_kind(rt: HostRuntime) {
-    let rows = [
-        (b"\xff".as_slice(), RegistryFault::Text, 1),
-        (b"[cell", RegistryFault::Text, 1),
-        (
-            b"service = { threshold = 99999999999999999999 }\n",
-            RegistryFault::Text,
-            1,
-        ),
-        (
-            b"cell = [1, 1, 1, 1, 1, 1, 1, 1, 1, 1, 1, 1, 1, 1, 1, 1, 1]",
-            RegistryFault::TooManyCells,
-            2,
-        ),
-        (
-            b"cell = [1, 1, 1, 1, 1, 1, 1, 1, 1, 1, 1, 1, 1, 1, 1, 1]",
-            RegistryFault::Missing { name: Name::Id },
-            3,
-        ),
-        (b"", RegistryFault::Missing { name: Name::Cell }, 3),
-        (b"cell = 3", RegistryFault::Missing { name: Name::Cell }, 3),
-        (b"cell = []", RegistryFault::Missing { name: Name::Cell }, 3),
-        (
-            b"[cell]\nid = 1",
-            RegistryFault::Missing { name: Name::Cell },
-            3,
-        ),
-        (
-            b"cell = [{ id = '1', prefix = 'a', width = 1 }]",
-            RegistryFault::Missing { name: Name::Id },
-            3,
-        ),
-        (
-            b"cell = [{ id = 1, width = 1 }]",
-            RegistryFault::Missing { name: Name::Prefix },
-            3,
-        ),
-        (
-            b"service = { threshold = 0 }\ncell = [{ id = 0, prefix = 'a', width = 1 }, { id = 1, prefix = 'b' }]",
-            RegistryFault::Missing { name: Name::Width },
-            3,
-        ),
-        (
-            b"service = 3\ncell = [{ id = 1, prefix = 'a', width = 1 }]",
-            RegistryFault::BadValue {
-                name: Name::Threshold,
-            },
-            4,
-        ),
-        (
-            b"service = { threshold = '600' }\ncell = [{ id = 0, prefix = 'a', width = 1 }]",
-            RegistryFault::BadValue {
-                name: Name::Threshold,
-            },
-            4,
-        ),
-        (
-            b"service = { threshold = 86401 }\ncell = [{ id = 1, prefix = 'a', width = 1 }]",
-            RegistryFault::BadValue {
-                name: Name::Threshold,
-            },
-            4,
-        ),
-        (
-            b"cell = [{ id = 1000, prefix = 'A', width = 1 }]",
-            RegistryFault::BadValue { name: Name::Id },
-            4,
-        ),
-        (
-            b"cell = [{ id = -1, prefix = 'a', width = 1 }]",
-            RegistryFault::BadValue { name: Name::Id },
-            4,
-        ),
-        (
-            b"cell = [{ id = 1, prefix = '', width = 1 }]",
-            RegistryFault::BadValue { name: Name::Prefix },
-            4,
-        ),
-        (
-            b"cell = [{ id = 1, prefix = 'A', width = 0 }]",
-            RegistryFault::BadValue { name: Name::Prefix },
-            4,
-        ),
-        (
-            b"cell = [{ id = 1, prefix = 'aaaaaaaaaaaaaaaaaaaaaaaaaaaaaaaaa', width = 1 }]",
-            RegistryFault::BadValue { name: Name::Prefix },
-            4,
-        ),
-        (
-            b"cell = [{ id = 1, prefix = 'a', width = 1 }, { id = 1, prefix = 'a', width = 0 }]",
-            RegistryFault::BadValue { name: Name::Width },
-            4,
-        ),
-        (
-            b"cell = [{ id = 2, prefix = 'a', width = 1 }, { id = 1, prefix = 'a', width = 1 }, { id = 1, prefix = 'b', width = 1 }]",
-            RegistryFault::Duplicate { id: 1 },
-            5,
-        ),
-        (
-            b"cell = [{ id = 2, prefix = 'ab', width = 1 }, { id = 1, prefix = 'b', width = 1 }, { id = 3, prefix = 'a', width = 1 }]",
-            RegistryFault::PrefixOverlap { a: 2, b: 3 },
-            6,
-        ),
-        (
-            b"cell = [{ id = 9, prefix = 'a', width = 1 }, { id = 8, prefix = 'b', width = 1 }, { id = 7, prefix = 'b', width = 1 }, { id = 6, prefix = 'ac', width = 1 }]",
-            RegistryFault::PrefixOverlap { a: 9, b: 6 },
-            6,
-        ),
-    ];
-    for (text, fault, number) in rows {
+    for (text, fault, number) in FAULTS {
         assert_eq!(rt; fault_of(rt.alloc(), text), Some(fault));
         assert_eq!(rt; fault.number(), Some(number));
     }

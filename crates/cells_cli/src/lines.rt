@@ -98,10 +98,14 @@ fn read_more<S: Source>(
     requires within { IsWithin pending.old buffer.old }
     requires room { pending.old.to - pending.old.from < length buffer.old }
     ensures within { IsWithin pending.new buffer.new }
-    ensures grows { IfOk result (λ some. IsTrue some → pending.old.to - pending.old.from < pending.new.to - pending.new.from) }
-    ensures end { IfOk result (λ some. some ≡ false → bytes_at pending.new buffer.new ≡ bytes_at pending.old buffer.old) }
-    ensures kept { take (pending.old.to - pending.old.from) (bytes_at pending.new buffer.new) ≡ bytes_at pending.old buffer.old }
-    ensures ahead { IsTrue S.tells → bytes_at pending.new buffer.new ++ S.left source.new ≡ bytes_at pending.old buffer.old ++ S.left source.old }
+    ensures grows { IfOk result (λ some. IsTrue some →
+        pending.old.to - pending.old.from < pending.new.to - pending.new.from) }
+    ensures end { IfOk result (λ some. some ≡ false → bytes_at pending.new buffer.new ≡
+        bytes_at pending.old buffer.old) }
+    ensures kept { take (pending.old.to - pending.old.from) (bytes_at pending.new buffer.new) ≡
+        bytes_at pending.old buffer.old }
+    ensures ahead { IsTrue S.tells → bytes_at pending.new buffer.new ++ S.left source.new ≡
+        bytes_at pending.old buffer.old ++ S.left source.old }
     ensures at_end { IsTrue S.tells → IfOk result (λ some. some ≡ false → S.left source.new ≡ []) }
     ensures cause { HasCause (S.faults source.old) (S.faults source.new) result }
 {
@@ -123,8 +127,10 @@ fn fill<S: Source>(
     requires room { limit + PIECE_BYTES ≤ length buffer.old }
     ensures within { IsWithin pending.new buffer.new }
     ensures found { IfOk result (λ at. at ≡ position is_end (bytes_at pending.new buffer.new)) }
-    ensures ahead { IsTrue S.tells → bytes_at pending.new buffer.new ++ S.left source.new ≡ bytes_at pending.old buffer.old ++ S.left source.old }
-    ensures whole { IsTrue S.tells → IfOk result (λ at. at ≡ None → length (bytes_at pending.new buffer.new) ≤ limit → S.left source.new ≡ []) }
+    ensures ahead { IsTrue S.tells → bytes_at pending.new buffer.new ++ S.left source.new ≡
+        bytes_at pending.old buffer.old ++ S.left source.old }
+    ensures whole { IsTrue S.tells → IfOk result (λ at. at ≡ None →
+        length (bytes_at pending.new buffer.new) ≤ limit → S.left source.new ≡ []) }
     ensures cause { HasCause (S.faults source.old) (S.faults source.new) result }
 {
     let mut sought = 0;
@@ -255,11 +261,14 @@ impl LineReader {
         ensures many { IsErrOf result LineFault.TooMany → (self.old.given ≡ LINES) × (self.new.pending ≢ []) }
         ensures read { IsErrOf result LineFault.Read → Rose (S.faults source.old) (S.faults source.new) }
         ensures later { S.faults source.old ≤ S.faults source.new }
-        ensures stays { IsTrue S.tells → OnErr result (ahead S.Source self.new source.new ≡ ahead S.Source self.old source.old) }
+        ensures stays { IsTrue S.tells → OnErr result (ahead S.Source self.new source.new ≡
+            ahead S.Source self.old source.old) }
         ensures given { OnErr result (self.new.given ≡ self.old.given) }
         ensures limit { self.new.limit ≡ self.old.limit }
-        ensures passed { IsTrue S.tells → IfOk result (λ _. SameRefused S.Source self.old source.old self.new source.new) }
-        ensures refused { IsTrue S.tells → IfErr result (λ fault. Refuses fault (refused_ahead S.Source self.old source.old)) }
+        ensures passed { IsTrue S.tells →
+            IfOk result (λ _. SameRefused S.Source self.old source.old self.new source.new) }
+        ensures refused { IsTrue S.tells →
+            IfErr result (λ fault. Refuses fault (refused_ahead S.Source self.old source.old)) }
     {
         let buffer = self.buffer.as_mut_slice();
         if self.given == LINES {

@@ -81,8 +81,10 @@ fn reply_body(alloc: Global, service: &mut Service, request: Request) -> Result<
 // The body that answers a line.
 fn answer_body(alloc: Global, service: &mut Service, line: &[u8]) -> Result<Text, NoMemory>
     requires { KeepsBounds service.old }
-    ensures body { IfOk result (λ body. body ≡ answer_to service.old.registry (map_of service.old) (request_of line.now)) }
-    ensures map { OnOk result (map_of service.new ≡ map_after service.old.registry (map_of service.old) (request_of line.now)) }
+    ensures body { IfOk result (λ body. body ≡
+        answer_to service.old.registry (map_of service.old) (request_of line.now)) }
+    ensures map { OnOk result (map_of service.new ≡
+        map_after service.old.registry (map_of service.old) (request_of line.now)) }
     ensures bounds { OnOk result (KeepsBounds service.new) }
     ensures registry { service.new.registry ≡ service.old.registry }
 {

@@ -71,7 +71,8 @@ impl Service {
         requires bounds { IsRequest request.now }
         requires map { IsWithinBounds (map_of self.old) }
         ensures reply { IfOk result (λ reply. reply ≡ (due self.old.registry (map_of self.old) request.now).reply) }
-        ensures step { OnOk result (map_of self.new ≡ after_any (map_of self.old) (due self.old.registry (map_of self.old) request.now).step) }
+        ensures step { OnOk result (map_of self.new ≡
+            after_any (map_of self.old) (due self.old.registry (map_of self.old) request.now).step) }
         ensures err { OnErr result (map_of self.new ≡ map_of self.old) }
         ensures registry { self.new.registry ≡ self.old.registry }
     {

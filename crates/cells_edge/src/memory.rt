@@ -112,11 +112,13 @@ impl Source for BytesSource {
 
     fn read(&mut self, buf: &mut [u8]) -> Result<usize, SourceFailed>
         ensures bound { ReadsAtMost result buf.new }
-        ensures bytes { MatchResult result (λ n. self.old.left ≡ take n buf.new ++ self.new.left) (λ _. self.new.left ≡ self.old.left) }
+        ensures bytes { MatchResult result (λ n. self.old.left ≡ take n buf.new ++
+            self.new.left) (λ _. self.new.left ≡ self.old.left) }
         ensures end { IfOk result (λ n. n ≡ 0 → 0 < length buf.new → self.new.left ≡ []) }
         ensures cause { HasCause self.old.faults self.new.faults result }
         ensures fails { is_err result ≡ fails_now self.old.passes }
-        ensures passed { IfOk result (λ n. (n ≡ given self.old (length buf.old)) × (self.new ≡ read_passed self.old n)) }
+        ensures passed { IfOk result (λ n. (n ≡ given self.old (length buf.old)) ×
+            (self.new ≡ read_passed self.old n)) }
         ensures failed { OnErr result (self.new ≡ read_failed self.old) }
     {
         if is_due(self.passes) {
@@ -212,9 +214,12 @@ impl Sink for BytesSink {
         ensures bytes { MatchResult result (λ n. self.new.written ≡ self.old.written ++ take n bytes.now)
             (λ _. (front : List ℕ) × IsPrefix front bytes.now × (self.new.written ≡ self.old.written ++ front)) }
         ensures cause { HasCause self.old.faults self.new.faults result }
-        ensures fails { IsErr result ↔ (IsTrue (fails_now self.old.passes) ⊎ (self.old.room < taken self.old (length bytes.now))) }
-        ensures passed { IfOk result (λ n. (n ≡ taken self.old (length bytes.now)) × (self.new ≡ write_passed self.old bytes.now n)) }
-        ensures failed { OnErr result (self.new ≡ (if fails_now self.old.passes then write_failed self.old else write_filled self.old bytes.now)) }
+        ensures fails { IsErr result ↔ (IsTrue (fails_now self.old.passes) ⊎
+            (self.old.room < taken self.old (length bytes.now))) }
+        ensures passed { IfOk result (λ n. (n ≡ taken self.old (length bytes.now)) ×
+            (self.new ≡ write_passed self.old bytes.now n)) }
+        ensures failed { OnErr result (self.new ≡
+            (if fails_now self.old.passes then write_failed self.old else write_filled self.old bytes.now)) }
     {
         if is_due(self.passes) {
             self.passes = None;

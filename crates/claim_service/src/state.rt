@@ -136,7 +136,8 @@ fn cell_asked(request: &Request) -> Option<u16>
 // The cell of a request, if it is one that the configuration lacks.
 fn lacking(registry: &Registry, request: &Request) -> Option<u16>
     ensures none { IfNone result (Knows registry.now (cell_asked request.now)) }
-    ensures some { IfSome result (λ cell. (cell_asked request.now ≡ Some cell) × IsTrue (is_none (cell_of registry.now cell))) }
+    ensures some { IfSome result (λ cell. (cell_asked request.now ≡ Some cell) ×
+        IsTrue (is_none (cell_of registry.now cell))) }
 {
     match cell_asked(request) {
         Some(cell) if registry.cell(cell).is_none() => Some(cell),
@@ -190,7 +191,8 @@ impl ServiceState {
 
     fn commit(&mut self, alloc: Global, lease: LeaseId) -> Result<Answered, NoMemory>
         requires { IsLease lease }
-        ensures { Answers (commit_due lease (map.get self.old.leases.open_leases lease) (map.get self.old.leases.settled lease)) (kept self.old) result (kept self.new) }
+        ensures { Answers (commit_due lease (map.get self.old.leases.open_leases lease)
+            (map.get self.old.leases.settled lease)) (kept self.old) result (kept self.new) }
     {
         let how = How::Committed;
         let body = write_service(alloc, &ServiceEntry::Settled { lease, how })?;
@@ -208,7 +210,8 @@ impl ServiceState {
 
     fn rollback(&mut self, alloc: Global, lease: LeaseId) -> Result<Answered, NoMemory>
         requires { IsLease lease }
-        ensures { Answers (rollback_due lease (map.get self.old.leases.settled lease)) (kept self.old) result (kept self.new) }
+        ensures { Answers (rollback_due lease (map.get self.old.leases.settled lease)) (kept self.old) result
+            (kept self.new) }
     {
         let how = How::RolledBack;
         let body = write_service(alloc, &ServiceEntry::Settled { lease, how })?;
@@ -248,7 +251,8 @@ impl ServiceState {
     ) -> Result<Answered, NoMemory>
         requires lease { IsLease lease }
         requires ops { AreOperations ops.now }
-        ensures { Answers (begin_due lease ops.now (verdict_of self.old.leases self.old.ranges lease ops.now)) (kept self.old) result (kept self.new) }
+        ensures { Answers (begin_due lease ops.now (verdict_of self.old.leases self.old.ranges lease ops.now))
+            (kept self.old) result (kept self.new) }
     {
         let result = match self.leases.judge(self.ranges.list(), lease, ops) {
             Verdict::Fresh => return self.open(alloc, lease, ops.copy(alloc)?),
@@ -262,7 +266,8 @@ impl ServiceState {
     fn give(&mut self, alloc: Global, range: Range) -> Result<Answered, NoMemory>
         requires bounds { IsRange range }
         requires follows { follows self.old.ranges range ≡ true }
-        ensures { Answers (range_due range.cell range.number (fresh_range range)) (kept self.old) result (kept self.new) }
+        ensures { Answers (range_due range.cell range.number (fresh_range range)) (kept self.old) result
+            (kept self.new) }
     {
         let body = write_service(alloc, &ServiceEntry::Given { range })?;
         self.ranges.add(range)?;
@@ -292,7 +297,8 @@ impl ServiceState {
     ) -> Result<Answered, NoMemory>
         requires cell { IsCell cell }
         requires number { IsRangeNumber number }
-        ensures { Answers (range_due cell number (range_verdict registry.now self.old.ranges cell number)) (kept self.old) result (kept self.new) }
+        ensures { Answers (range_due cell number (range_verdict registry.now self.old.ranges cell number))
+            (kept self.old) result (kept self.new) }
     {
         let result = match self.ranges.asked(registry, cell, number) {
             Ok(Asked { range, fresh: true }) => return self.give(alloc, range),
@@ -324,7 +330,8 @@ impl ServiceState {
         question: &Question,
     ) -> Result<Answered, NoMemory>
         requires { AreHeld self.now.leases.holder }
-        ensures { Answers (classify_due question.now (class_of registry.now self.now.leases.holder question.now)) (kept self.now) result (kept self.now) }
+        ensures { Answers (classify_due question.now
+            (class_of registry.now self.now.leases.holder question.now)) (kept self.now) result (kept self.now) }
     {
         let class = classify(&self.leases, registry, question);
         let question = copy_of(alloc, question)?;

@@ -92,7 +92,8 @@ fn is_segment(segment: &[u8]) -> bool
 }
 
 fn bad_segment(value: &[u8]) -> Option<usize>
-    ensures { result ≡ position (λ part. not (spec.is_segment part)) (take ROUTE_SEGMENTS (slice_split spec.is_slash value.now)) }
+    ensures { result ≡ position (λ part. not (spec.is_segment part)) (take ROUTE_SEGMENTS
+        (slice_split spec.is_slash value.now)) }
 {
     value
         .split(|b| *b == b'/')
@@ -125,7 +126,8 @@ fn is_label(label: &[u8]) -> bool
 }
 
 fn bad_label(value: &[u8]) -> Option<usize>
-    ensures { result ≡ position (λ part. not (spec.is_label part)) (take MOST_LABELS (slice_split spec.is_dot value.now)) }
+    ensures { result ≡ position (λ part. not (spec.is_label part)) (take MOST_LABELS
+        (slice_split spec.is_dot value.now)) }
 {
     value
         .split(|b| *b == b'.')

@@ -192,7 +192,8 @@ pub fn enter(
 /// holds are gone. It takes no memory.
 pub fn forget(keys: &mut Keys, rows: &mut Rows, cell: u16, ops: Operations)
     ensures holder { keys.new.holder ≡ keys.old.holder }
-    ensures named { keys.new.named ≡ without_names (created_keys ops.creates) (without_names ops.destroys keys.old.named) }
+    ensures named { keys.new.named ≡
+        without_names (created_keys ops.creates) (without_names ops.destroys keys.old.named) }
     ensures held { KeepsHeld keys.old.holder rows.old rows.new }
     ensures rows { KeepsRows (created_keys ops.creates) rows.old rows.new }
 {

@@ -93,7 +93,8 @@ fn blocked(named: Option<LeaseId>, index: u64) -> Option<Refusal>
 }
 
 fn create_refusal(leases: &Leases, key: &ClaimKey, index: u64) -> Option<Refusal>
-    ensures { result ≡ create_refused (map.get leases.now.holder key.now) (lease_naming leases.now.open_leases key.now) index }
+    ensures { result ≡ create_refused (map.get leases.now.holder key.now)
+        (lease_naming leases.now.open_leases key.now) index }
 {
     let state = leases.state(key);
     match state.holder {
@@ -106,7 +107,8 @@ fn create_refusal(leases: &Leases, key: &ClaimKey, index: u64) -> Option<Refusal
 }
 
 fn destroy_refusal(leases: &Leases, cell: u16, key: &ClaimKey, index: u64) -> Option<Refusal>
-    ensures { result ≡ destroy_refused cell (map.get leases.now.holder key.now) (lease_naming leases.now.open_leases key.now) index }
+    ensures { result ≡ destroy_refused cell (map.get leases.now.holder key.now)
+        (lease_naming leases.now.open_leases key.now) index }
 {
     let state = leases.state(key);
     match state.holder {

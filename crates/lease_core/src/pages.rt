@@ -72,7 +72,8 @@ pub fn leases_above(
     last: Option<LeaseId>,
     most: usize,
 ) -> Result<Vec<LeaseId>, NoMemory>
-    ensures { IfOk result (λ leases. leases.items ≡ take most (filter (λ l. nat_eq l.cell cell && stands_behind last l) (map.keys open_leases.now))) }
+    ensures { IfOk result (λ leases. leases.items ≡
+        take most (filter (λ l. nat_eq l.cell cell && stands_behind last l) (map.keys open_leases.now))) }
 {
     let mut leases = Vec::new(alloc);
     for (lease, _) in open_leases.entries.range(first_lease(cell, last)..) {
@@ -101,7 +102,8 @@ pub struct Listing {
 }
 
 fn lists(listing: &Listing, key: &ClaimKey, holding: &Holding) -> bool
-    ensures { result ≡ is_listed listing.now.cell listing.now.bucket listing.now.first listing.now.last listing.now.after (key.now, holding.now) }
+    ensures { result ≡ is_listed listing.now.cell listing.now.bucket listing.now.first listing.now.last
+        listing.now.after (key.now, holding.now) }
 {
     let row = holding.origin.row;
     holding.cell == listing.cell
@@ -139,7 +141,10 @@ fn claim_at(
     listing: &Listing,
     place: &RowKey,
 ) -> Result<Option<ClaimItem>, NoMemory>
-    ensures { IfOk result (λ claim. claim ≡ claim_there keys.now.holder (is_listed listing.now.cell listing.now.bucket listing.now.first listing.now.last listing.now.after) place.now) }
+    ensures { IfOk result (λ claim. claim ≡
+        claim_there keys.now.holder
+        (is_listed listing.now.cell listing.now.bucket listing.now.first listing.now.last listing.now.after)
+        place.now) }
 {
     let key = &place.key;
     let Some(holding) = keys.state(key.bucket, key.value.as_slice()).holder else {
@@ -160,7 +165,13 @@ fn claim_at(
 
 // A place that none of the page stands before.
 fn first_place(alloc: Global, listing: &Listing) -> RowKey
-    ensures { result ≡ record { cell = listing.now.cell; bucket = listing.now.bucket; row = max listing.now.first listing.now.after; key = record { bucket = Bucket.OrganizationPath; value = [] } } }
+    ensures { result ≡ record {
+      cell = listing.now.cell;
+      bucket = listing.now.bucket;
+      row = max listing.now.first
+          listing.now.after;
+      key = record { bucket = Bucket.OrganizationPath; value = [] };
+    } }
 {
     RowKey {
         cell: listing.cell,
@@ -182,7 +193,10 @@ pub fn first_claims(
     most: usize,
 ) -> Result<Vec<ClaimItem>, NoMemory>
     requires { HasHeld rows.now keys.now.holder }
-    ensures { IfOk result (λ claims. claims.items ≡ take most (values (from_entries {R = place_cmp} (each placed (filter (is_listed listing.now.cell listing.now.bucket listing.now.first listing.now.last listing.now.after) (map.entries keys.now.holder)))))) }
+    ensures { IfOk result (λ claims. claims.items ≡
+        take most (values (from_entries {R = place_cmp} (each placed (filter
+        (is_listed listing.now.cell listing.now.bucket listing.now.first listing.now.last listing.now.after)
+        (map.entries keys.now.holder)))))) }
 {
     let mut claims = Vec::new(alloc);
     for place in rows.places.range(first_place(alloc, listing)..) {

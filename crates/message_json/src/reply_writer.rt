@@ -116,7 +116,8 @@ fn keyed<'x>(
     key: &'x ClaimKey,
 ) -> Result<(), AllocError>
     requires { IsWritableKey key.now }
-    ensures { OnOk result (AddsValue out.old out.new (spec.keyed_data lease.now outcome.now (bucket_name key.now.bucket) key.now.value)) }
+    ensures { OnOk result (AddsValue out.old out.new (spec.keyed_data lease.now outcome.now
+        (bucket_name key.now.bucket) key.now.value)) }
 {
     let bucket = key.bucket.name();
     let value = text_of(&key.value);
@@ -139,7 +140,8 @@ fn owned<'x>(
     owner: u16,
 ) -> Result<(), AllocError>
     requires { IsWritableKey key.now }
-    ensures { OnOk result (AddsValue out.old out.new (spec.owned_data lease.now (bucket_name key.now.bucket) key.now.value owner)) }
+    ensures { OnOk result (AddsValue out.old out.new (spec.owned_data lease.now
+        (bucket_name key.now.bucket) key.now.value owner)) }
 {
     let bucket = key.bucket.name();
     let value = text_of(&key.value);
@@ -163,7 +165,8 @@ fn leased<'x>(
     by: &'x str,
 ) -> Result<(), AllocError>
     requires { IsWritableKey key.now }
-    ensures { OnOk result (AddsValue out.old out.new (spec.leased_data lease.now (bucket_name key.now.bucket) key.now.value by.now)) }
+    ensures { OnOk result (AddsValue out.old out.new (spec.leased_data lease.now
+        (bucket_name key.now.bucket) key.now.value by.now)) }
 {
     let bucket = key.bucket.name();
     let value = text_of(&key.value);
@@ -183,7 +186,8 @@ fn leased<'x>(
 fn leased_by(out: &mut Writer, lease: &str, key: &ClaimKey, by: LeaseId) -> Result<(), AllocError>
     requires text { IsWritableKey key.now }
     requires bounds { IsLease by }
-    ensures { OnOk result (AddsValue out.old out.new (spec.leased_data lease.now (bucket_name key.now.bucket) key.now.value (lease_text by))) }
+    ensures { OnOk result (AddsValue out.old out.new (spec.leased_data lease.now
+        (bucket_name key.now.bucket) key.now.value (lease_text by))) }
 {
     let mut room = Uuid::encode_buffer();
     leased(out, lease, key, lease_text(by, &mut room))
@@ -259,7 +263,8 @@ fn leases(out: &mut Writer, leases: &[LeaseId]) -> Result<(), AllocError>
 
 fn leases_reply(out: &mut Writer, cell: u16, page: &LeasePage) -> Result<(), AllocError>
     requires { AreWritableLeases page.now.leases }
-    ensures { OnOk result (AddsValue out.old out.new (spec.leases_data cell (items_of (map spec.lease_item page.now.leases)) page.now.more)) }
+    ensures { OnOk result (AddsValue out.old out.new (spec.leases_data cell (items_of
+        (map spec.lease_item page.now.leases)) page.now.more)) }
 {
     out.begin_object()?;
     members(out, &[("cell", Field::Count(cell as u64))])?;
@@ -395,7 +400,9 @@ struct Asked {
 
 fn claims_reply(out: &mut Writer, asked: Asked, page: &ClaimPage) -> Result<(), AllocError>
     requires { AreWritableClaims page.now.items }
-    ensures { OnOk result (AddsValue out.old out.new (spec.claims_page_data asked.cell (bucket_name asked.bucket) asked.first asked.last asked.after (items_of (map spec.claim_item page.now.items)) page.now.more)) }
+    ensures { OnOk result (AddsValue out.old out.new (spec.claims_page_data asked.cell
+        (bucket_name asked.bucket) asked.first asked.last asked.after (items_of
+        (map spec.claim_item page.now.items)) page.now.more)) }
 {
     let Asked {
         cell,
@@ -464,7 +471,9 @@ fn answered_text<'x>(
     asked: &'x str,
     answer: u16,
 ) -> Result<(), AllocError>
-    ensures { OnOk result (AddsValue out.old out.new (object (count (codes "answer") answer (text (codes "by") by.now (text (codes "reply") (codes "classified") (text (codes "result") (codes "cell") (text (codes "text") asked.now no_members))))))) }
+    ensures { OnOk result (AddsValue out.old out.new (object (count (codes "answer") answer (text
+        (codes "by") by.now (text (codes "reply") (codes "classified") (text (codes "result") (codes "cell")
+        (text (codes "text") asked.now no_members))))))) }
 {
     object(
         out,
@@ -543,7 +552,8 @@ fn unanswered_text<'x>(
     asked: &'x str,
     word: &'x str,
 ) -> Result<(), AllocError>
-    ensures { OnOk result (AddsValue out.old out.new (object (text (codes "by") by.now (text (codes "reply") (codes "classified") (text (codes "result") word.now (text (codes "text") asked.now no_members)))))) }
+    ensures { OnOk result (AddsValue out.old out.new (object (text (codes "by") by.now (text (codes "reply")
+        (codes "classified") (text (codes "result") word.now (text (codes "text") asked.now no_members)))))) }
 {
     object(
         out,

@@ -72,7 +72,8 @@ fn begin_value(
     creates: Vec<Value>,
     destroys: Vec<Value>,
 ) -> Result<Value, AllocError>
-    ensures { IfOk result (λ v. view v ≡ spec.begin_data lease.now (items_view creates.items) (items_view destroys.items)) }
+    ensures { IfOk result (λ v. view v ≡
+        spec.begin_data lease.now (items_view creates.items) (items_view destroys.items)) }
 {
     json!(in alloc; { "ask": "begin", "creates": creates, "destroys": destroys, "lease": lease })
 }
@@ -80,7 +81,9 @@ fn begin_value(
 fn begin(alloc: Global, lease: LeaseId, ops: &Operations) -> Result<Value, AllocError>
     requires bounds { IsLease lease }
     requires texts { AreWritable ops.now }
-    ensures { IfOk result (λ v. view v ≡ spec.begin_data (lease_text lease) (items_of (map spec.create_data ops.now.creates)) (items_of (map spec.destroy_data ops.now.destroys))) }
+    ensures { IfOk result (λ v. view v ≡
+        spec.begin_data (lease_text lease) (items_of (map spec.create_data ops.now.creates)) (items_of
+        (map spec.destroy_data ops.now.destroys))) }
 {
     let creates = create_values(alloc, ops.creates.as_slice())?;
     let destroys = destroy_values(alloc, ops.destroys.as_slice())?;
@@ -159,7 +162,9 @@ fn classify_cell(alloc: Global, id: u16) -> Result<Value, AllocError>
 
 // A question by a text: by `session` or by `path`.
 fn classify_text(alloc: Global, by: &str, asked: &str) -> Result<Value, AllocError>
-    ensures { IfOk result (λ v. view v ≡ object (text (codes "ask") (codes "classify") (text (codes "by") by.now (text (codes "text") asked.now no_members)))) }
+    ensures { IfOk result (λ v. view v ≡
+        object (text (codes "ask") (codes "classify") (text (codes "by") by.now (text
+        (codes "text") asked.now no_members)))) }
 {
     json!(in alloc; { "ask": "classify", "by": by, "text": asked })
 }

@@ -242,7 +242,7 @@ fn a_begin_names_its_first_fault(rt: HostRuntime) {
 }
 
 #[test]
-fn an_operation_names_its_first_fault(rt: HostRuntime) -> Result<(), Fail> {
+fn a_create_names_its_first_fault(rt: HostRuntime) -> Result<(), Fail> {
     let creates = [
         ("1", wrong_kind(Member::Creates)),
         ("{}", missing(Member::Bucket)),
@@ -275,6 +275,11 @@ fn an_operation_names_its_first_fault(rt: HostRuntime) -> Result<(), Fail> {
         ),
     ];
     finds_faults_within(&rt, CREATES, &creates)?;
+    Ok(())
+}
+
+#[test]
+fn a_destroy_names_its_first_fault(rt: HostRuntime) -> Result<(), Fail> {
     let destroys = [
         ("[]", wrong_kind(Member::Destroys)),
         (r#"{"value":"a"}"#, missing(Member::Bucket)),
@@ -345,7 +350,7 @@ fn each_other_ask_names_its_first_fault(rt: HostRuntime) {
 }
 
 #[test]
-fn a_question_names_its_first_fault(rt: HostRuntime) -> Result<(), Fail> {
+fn a_question_names_its_first_fault(rt: HostRuntime) {
     let rows = [
         (r#"{"ask":"classify","cell":0}"#, missing(Member::By)),
         (r#"{"ask":"classify","by":1}"#, wrong_kind(Member::By)),
@@ -366,6 +371,13 @@ fn a_question_names_its_first_fault(rt: HostRuntime) -> Result<(), Fail> {
             r#"{"ask":"classify","by":"claim","bucket":"route","value":"a//b"}"#,
             bad_value(Member::Value),
         ),
+    ];
+    finds_faults(&rt, &rows);
+}
+
+#[test]
+fn a_request_for_a_page_names_its_first_fault(rt: HostRuntime) {
+    let rows = [
         (
             r#"{"ask":"page","cell":1,"path":1}"#,
             wrong_kind(Member::Path),
@@ -380,6 +392,10 @@ fn a_question_names_its_first_fault(rt: HostRuntime) -> Result<(), Fail> {
         ),
     ];
     finds_faults(&rt, &rows);
+}
+
+#[test]
+fn a_text_has_a_greatest_length(rt: HostRuntime) -> Result<(), Fail> {
     let most = "a".repeat(rt.alloc(), 2048)?;
     let whole = format!(in rt.alloc(); r#"{{"ask":"classify","by":"path","text":"{most}"}}"#)?;
     assert_eq!(rt; request_fault(rt.alloc(), whole.as_str().as_bytes()), None);
@@ -453,6 +469,13 @@ fn a_reply_names_its_first_fault(rt: HostRuntime) {
             r#"{"reply":"ranged","cell":1,"number":1,"result":"ok","low":2,"high":1}"#,
             bad_value(Member::High),
         ),
+    ];
+    finds_reply_faults(&rt, &rows);
+}
+
+#[test]
+fn an_answer_names_its_first_fault(rt: HostRuntime) {
+    let rows = [
         (
             r#"{"reply":"claims","cell":1,"bucket":"route","first":1,"last":1,"after":0,"items":[[]]}"#,
             wrong_kind(Member::Items),

@@ -431,7 +431,8 @@ impl CellAgent {
         ensures agent { OnOk result (IsAgent self.new) }
         ensures written { OnOk result
             (Writes D.Disk disk.old disk.new self.old self.new (heard_by self.old (Ranged cell number answer))) }
-        ensures any_moment { WritesAtMost D.Disk disk.old disk.new self.old (heard_by self.old (Ranged cell number answer)) }
+        ensures any_moment { WritesAtMost D.Disk disk.old disk.new self.old (heard_by self.old
+            (Ranged cell number answer)) }
         ensures in_doubt { IsErrOf result AgentFault.Failed →
             LeavesInDoubt D.Disk disk.old disk.new self.old (heard_by self.old (Ranged cell number answer)) }
         ensures memory { IsErrOf result AgentFault.Memory → Untouched disk.old disk.new self.old self.new }

@@ -40,7 +40,8 @@ pub fn rename_record(
 ) -> Result<(), NoMemory>
     requires within { at < length records.old.items }
     requires free { AreFree ops.now.creates index.old }
-    ensures ok { (d : TheRecord) → OnOk result (records.new.items ≡ slice_set records.old.items at (record (slice_index_or records.old.items at d) { name = name })) }
+    ensures ok { (d : TheRecord) → OnOk result (records.new.items ≡
+        slice_set records.old.items at (record (slice_index_or records.old.items at d) { name = name })) }
     ensures index { OnOk result (index.new ≡ index_after ops.now index.old) }
     ensures stays { OnErr result (records.new.items ≡ records.old.items) }
     ensures same { OnErr result (IsSame index.old index.new) }

@@ -36,7 +36,8 @@ fn create_rules(
     ops: &Operations,
 ) -> Result<(), Rule>
     requires { IsWhole records.now index.now }
-    ensures { Refuses result (create_refusal index.now version kind parent name.now (find (λ r. nat_eq r.id parent) records.now) next ops.now) }
+    ensures { Refuses result (create_refusal index.now version kind parent name.now (find
+        (λ r. nat_eq r.id parent) records.now) next ops.now) }
 {
     placed(records, kind, parent)?;
     well_named(alloc, kind, name, ops)?;
@@ -131,7 +132,8 @@ fn operations_in_place(
     requires ascending { AreAscending 0 records.now }
     requires above { AreAbove records.now }
     requires within { at < length records.now }
-    ensures { (d : Record) → IfOk result (λ ops. ops ≡ between_renamed records.now (slice_index_or records.now at d).id name.now) }
+    ensures { (d : Record) → IfOk result (λ ops. ops ≡
+        between_renamed records.now (slice_index_or records.now at d).id name.now) }
 {
     let old_name = records[at].name.as_slice();
     if is_same_name(alloc, old_name, name)? {

@@ -17,7 +17,8 @@ fn front(path: &[u8], end: usize) -> &[u8]
 // The record of the front of this many bytes, where it ends a segment and is a route.
 fn at_front(index: &KeyMap<u64>, path: &[u8], end: usize) -> Option<u64>
     requires { end ≤ length path.now }
-    ensures some { (id : ℕ) → result ≡ Some id → EndsSegment path.now end × (map.get index.now (route_key (take end path.now)) ≡ Some id) }
+    ensures some { (id : ℕ) → result ≡ Some id → EndsSegment path.now end ×
+        (map.get index.now (route_key (take end path.now)) ≡ Some id) }
     ensures none { result ≡ None → EndsSegment path.now end → map.get index.now (route_key (take end path.now)) ≡ None }
 {
     if end < path.len() {

@@ -175,7 +175,12 @@ impl Tree {
         requires may { MayFollow self.old.records (self.old.records ++ item ∷ []) ops.now }
         requires used { self.old.used + 1 < 2 ^ 64 }
         requires version { version ≡ self.old.version + 1 }
-        ensures ok { OnOk result (self.new ≡ record { records = self.old.records ++ item ∷ []; used = self.old.used + 1; version = self.old.version + 1 }) }
+        ensures ok { OnOk result (self.new ≡ record {
+          records = self.old.records ++
+              item ∷ [];
+          used = self.old.used + 1;
+          version = self.old.version + 1;
+        }) }
         ensures err { OnErr result (self.new ≡ self.old) }
     {
         self.put_behind(alloc, ops, item)?;
@@ -194,9 +199,18 @@ impl Tree {
         version: u64,
     ) -> Result<(), NoMemory>
         requires within { at < length self.old.records }
-        requires may { (d : TheRecord) → MayFollow self.old.records (slice_set self.old.records at (record (slice_index_or self.old.records at d) { name = name })) ops.now }
+        requires may { (d : TheRecord) →
+            MayFollow self.old.records (slice_set self.old.records at (record
+            (slice_index_or self.old.records at d) { name = name })) ops.now }
         requires version { version ≡ self.old.version + 1 }
-        ensures ok { (d : TheRecord) → OnOk result (self.new ≡ record { records = slice_set self.old.records at (record (slice_index_or self.old.records at d) { name = name }); used = self.old.used; version = self.old.version + 1 }) }
+        ensures ok { (d : TheRecord) → OnOk result (self.new ≡
+            record {
+              records = slice_set self.old.records at (record
+                  (slice_index_or self.old.records at d) { name = name });
+              used = self.old.used;
+              version =
+                  self.old.version + 1;
+            }) }
         ensures err { OnErr result (self.new ≡ self.old) }
     {
         rename_record(alloc, &mut self.records, &mut self.index, ops, at, name)?;
@@ -215,7 +229,13 @@ impl Tree {
         requires within { at < length self.old.records }
         requires may { MayFollow self.old.records (list_without self.old.records at) ops.now }
         requires version { version ≡ self.old.version + 1 }
-        ensures ok { OnOk result (self.new ≡ record { records = list_without self.old.records at; used = self.old.used; version = self.old.version + 1 }) }
+        ensures ok { OnOk result (self.new ≡
+            record {
+              records = list_without self.old.records at;
+              used = self.old.used;
+              version = self.old.version
+                  + 1;
+            }) }
         ensures err { OnErr result (self.new ≡ self.old) }
     {
         remove_record(alloc, &mut self.records, &mut self.index, ops, at)?;

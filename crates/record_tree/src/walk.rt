@@ -46,7 +46,8 @@ fn pass(
 ) -> Result<(), NoMemory>
     requires rows_before { AreRows 0 before.old }
     requires rows_after { AreRows 0 afterwards.old }
-    ensures { OnOk result (moved_on (record { before = before.old; afterwards = afterwards.old }) item.now ≡ record { before = before.new; afterwards = afterwards.new }) }
+    ensures { OnOk result (moved_on (record { before = before.old; afterwards = afterwards.old }) item.now ≡
+        record { before = before.new; afterwards = afterwards.new }) }
 {
     if !goes_on(item.kind) {
         return Ok(());
@@ -71,7 +72,8 @@ fn pass_all(
     rest: &[Record],
 ) -> Result<(), NoMemory>
     requires { Fits (record { before = before.old; afterwards = afterwards.old }) rest.now }
-    ensures { OnOk result (moved_among (record { before = before.old; afterwards = afterwards.old }) rest.now ≡ record { before = before.new; afterwards = afterwards.new }) }
+    ensures { OnOk result (moved_among (record { before = before.old; afterwards = afterwards.old }) rest.now ≡
+        record { before = before.new; afterwards = afterwards.new }) }
 {
     for item in rest {
         pass(alloc, before, afterwards, item)?;
@@ -93,7 +95,8 @@ fn keys_of(alloc: Global, claims: Creates) -> Result<Keys, NoMemory>
 // What moves where at first one record's claim does, with the records behind it.
 fn moved(alloc: Global, old: Create, new: Create, rest: &[Record]) -> Result<Operations, NoMemory>
     requires { Fits (record { before = old ∷ []; afterwards = new ∷ [] }) rest.now }
-    ensures { IfOk result (λ ops. ops ≡ operations_of_moved (moved_among (record { before = old ∷ []; afterwards = new ∷ [] }) rest.now)) }
+    ensures { IfOk result (λ ops. ops ≡
+        operations_of_moved (moved_among (record { before = old ∷ []; afterwards = new ∷ [] }) rest.now)) }
 {
     let mut before = Creates::new(alloc);
     before.push(old)?;
@@ -117,8 +120,10 @@ pub fn rename_operations(
     requires ascending { AreAscending 0 records.now }
     requires above { AreAbove records.now }
     requires within { at < length records.now }
-    requires other { (d : Record) → map to_ascii_lowercase (slice_index_or records.now at d).name ≢ map to_ascii_lowercase name.now }
-    ensures { (d : Record) → IfOk result (λ ops. ops ≡ between_renamed records.now (slice_index_or records.now at d).id name.now) }
+    requires other { (d : Record) →
+        map to_ascii_lowercase (slice_index_or records.now at d).name ≢ map to_ascii_lowercase name.now }
+    ensures { (d : Record) → IfOk result (λ ops. ops ≡
+        between_renamed records.now (slice_index_or records.now at d).id name.now) }
 {
     let item = &records[at];
     let above = route(alloc, records, item.parent)?;

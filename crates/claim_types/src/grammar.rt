@@ -11,6 +11,7 @@ use crate::{
 };
 use std::alloc::Global;
 
+/// A text in small letters, where capitals are those of ASCII. Its one error is want of memory.
 pub fn lowered(alloc: Global, text: &[u8]) -> Result<Text, NoMemory>
     ensures { IfOk result (λ v. v ≡ map to_ascii_lowercase text.now) }
 {

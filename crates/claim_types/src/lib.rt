@@ -40,6 +40,7 @@ mod verdict;
 pub use cell::{Cell, Range};
 pub use cells_base::{Copied, Items, NoMemory, Text};
 pub use entry::{CellEntry, ServiceEntry};
+pub use grammar::lowered;
 pub use key::{Bucket, ClaimKey, KeyFault};
 pub use lease::{Holding, How, LeaseId};
 pub use limits::{

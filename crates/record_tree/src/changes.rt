@@ -13,12 +13,14 @@ ghost use Rattle.record_tree.specs.Kept.{AreAbove, NoRow};
 ghost use Rattle.record_tree.specs.Refusals.{create_refusal, rename_refusal, remove_refusal, same_name};
 
 use crate::places::place_of;
-use crate::routes::{claim_at, lowered, route};
+use crate::routes::{claim_at, route};
 use crate::rules::{
     childless, few, placed, renamable, renamed, unspent, untaken, well_named, with_id,
 };
 use crate::walk::rename_operations;
-use claim_types::{ClaimKey, Create, Creates, Keys, Kind, NoMemory, Operations, Record, Rule};
+use claim_types::{
+    ClaimKey, Create, Creates, Keys, Kind, NoMemory, Operations, Record, Rule, lowered,
+};
 use key_table::KeyMap;
 use std::alloc::Global;
 

@@ -12,9 +12,9 @@ ghost use Rattle.claim_types.specs.declared.rule.Rule.TheVariants.{WrongKind, Ha
 
 use crate::kinds::is_named;
 use crate::places::place_of;
-use crate::routes::lowered;
 use claim_types::{
     ClaimKey, Copied, Create, KeyFault, Kind, NoMemory, OPERATIONS, Operations, Record, Rule,
+    lowered,
 };
 use key_table::KeyMap;
 use std::alloc::Global;

@@ -1,5 +1,6 @@
 use crate::{CellOpenFault, CellStore};
-use disk_journal::{Disk, MemoryDisk};
+use claim_types::{Change, Kind, LeaseId, Range, Text};
+use disk_journal::{Disk, FuseDisk, MemoryDisk};
 use std::alloc::Global;
 use std::test::Fail;
 
@@ -57,6 +58,18 @@ const BROKEN: [(&str, usize, u8); 5] = [
     ("the change is refused", 26, 7),
     ("the operations are of another key", 38, 0x66),
     ("the entry is outside the grammar", 57, 1),
+];
+
+// A record stopped at a call, begun or not, then a crash with a pick: whether change and row stand.
+const STOPS: [(u64, bool, u64, bool); 8] = [
+    (1, true, 7, false),
+    (2, true, 7, false),
+    (3, false, 7, false),
+    (3, true, 0, false),
+    (3, true, 7, true),
+    (4, false, 0, false),
+    (4, false, 7, true),
+    (4, true, 7, true),
 ];
 
 // A disk whose file 1 is a journal with these bodies.
@@ -130,5 +143,111 @@ fn each_entry_has_its_turn(rt: HostRuntime) -> Result<(), Fail> {
         refusal(alloc, &bad_and_spent)?,
         Some(CellOpenFault::BadEntry { index: 1 })
     );
+    Ok(())
+}
+
+// Opens the store of cell 1, and records the organization `acme` in its first range, under the lease of the
+// present epoch's first attempt. Its row is taken away again if that is asked. Nothing is given where a call
+// fails, or the store is not a new one.
+fn keep<D: Disk>(alloc: Global, disk: &mut D, gone: bool) -> Option<CellStore> {
+    let Ok(mut store) = CellStore::open(alloc, disk, 1) else {
+        return None;
+    };
+    if !store.known().is_empty() {
+        return None;
+    }
+    if !store.rows().is_empty() {
+        return None;
+    }
+    let range = Range {
+        cell: 1,
+        number: 1,
+        low: 1,
+        high: 1_000,
+    };
+    let Ok(()) = store.range_got(alloc, disk, range) else {
+        return None;
+    };
+    let Ok(name) = Text::from_slice(alloc, b"acme") else {
+        return None;
+    };
+    let change = Change::Create {
+        kind: Kind::Organization,
+        parent: 0,
+        name,
+    };
+    let Ok(ops) = store.tree().operations_of(alloc, &change, store.known()) else {
+        return None;
+    };
+    let lease = LeaseId {
+        cell: 1,
+        epoch: store.epoch(),
+        attempt: 1,
+    };
+    let Ok(()) = store.record(alloc, disk, lease, &change, &ops, 0) else {
+        return None;
+    };
+    if gone {
+        let Ok(()) = store.row_gone(disk, lease) else {
+            return None;
+        };
+    }
+    Some(store)
+}
+
+#[test]
+fn a_store_keeps_what_it_recorded(rt: HostRuntime) -> Result<(), Fail> {
+    let alloc = rt.alloc();
+    let lease = LeaseId {
+        cell: 1,
+        epoch: 1,
+        attempt: 1,
+    };
+    for gone in [false, true] {
+        let mut disk = holding(alloc, &[])?;
+        let kept = keep(alloc, &mut disk, gone).ok_or("nothing is kept")?;
+        assert!(rt; kept.epoch() == 1 && kept.has_row(lease) == !gone);
+        let again = CellStore::open(alloc, &mut disk, 1)?;
+        assert!(rt; again.cell() == 1 && again.epoch() == 2 && again.has_row(lease) == !gone);
+        assert_eq!(rt; again.rows().len(), if gone { 0 } else { 1 });
+        assert_eq!(rt; again.known().len(), 1);
+        assert_eq!(rt; again.tree().records().len(), 1);
+        assert_eq!(rt; again.tree().version(), 1);
+    }
+    Ok(())
+}
+
+// The store that a crash leaves where a record is stopped at a call.
+fn stopped(alloc: Global, call: u64, begun: bool, pick: u64) -> Result<CellStore, Fail> {
+    // An opening and its epoch make nine calls, and a range four; the call counts from 1.
+    let passes = 12 + call.min(4);
+    let mut fuse = FuseDisk::new(holding(alloc, &[])?, passes, begun);
+    let _ = keep(alloc, &mut fuse, false);
+    let mut disk = fuse.crash(pick);
+    Ok(CellStore::open(alloc, &mut disk, 1)?)
+}
+
+#[test]
+fn change_and_row_stand_together(rt: HostRuntime) -> Result<(), Fail> {
+    let alloc = rt.alloc();
+    for (call, begun, pick, stands) in STOPS.iter() {
+        let store = stopped(alloc, *call, *begun, *pick)?;
+        let count = if *stands { 1 } else { 0 };
+        assert_eq!(rt;
+            store.known().len(),
+            1,
+            "call {call}, begun {begun}, pick {pick}"
+        );
+        assert_eq!(rt;
+            store.rows().len(),
+            count,
+            "call {call}, begun {begun}, pick {pick}"
+        );
+        assert_eq!(rt;
+            store.tree().records().len(),
+            count,
+            "call {call}, begun {begun}, pick {pick}"
+        );
+    }
     Ok(())
 }

@@ -26,6 +26,10 @@
 //! `specs/Reading` says of the tree that `toml` reads; each [`Registry`] is as `specs/Bounds` says.
 //! [`Ranges::give`] and [`Ranges::add`] do what the claim map's `specs/Ranges` says, and each [`Ranges`]
 //! is a list in which each range follows those before it. After want of memory all is as it was.
+//!
+//! It stands on `claim_map` and `claim_types`, and on `toml` for the tree of a text. A caller of
+//! [`Ranges::give`] keeps that the number is at least 1, and one of [`Registry::from_cells`] that the cells
+//! are within `specs/Bounds`.
 #![tactic(auto)]
 
 mod bounds;

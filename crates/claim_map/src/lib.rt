@@ -39,7 +39,8 @@
 //! Examples of claims, of operations and of each record rule compute in `proofs/Examples` and
 //! `proofs/ExamplesOfRules`. That the protocol takes legal steps alone is the law of `claim_laws`.
 //!
-//! The crates above promise that what they do is what these definitions say.
+//! The crates above promise that what they do is what these definitions say. It stands on the values of
+//! `claim_types`; there is no code to call here.
 #![tactic(auto)]
 
 mod laws;

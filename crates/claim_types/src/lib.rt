@@ -15,8 +15,10 @@
 //! exact both ways over the bits that `specs/Leases` states; keys and leases compare as `specs/Order`
 //! states ([`key_order`], [`lease_order`]), in total orders in which only equal ones tie. Which values,
 //! messages and entries are within bounds is stated once, in `specs/Bounds`, `specs/MessageBounds` and
-//! `specs/EntryBounds`.
-//! Everything else here is plain data.
+//! `specs/EntryBounds`. Everything else here is plain data.
+//!
+//! It stands on `cells_base`, and on `uuid` for the texts of leases. A caller of [`LeaseId::to_uuid`] keeps
+//! that the lease is within its bounds; no other call has a condition.
 #![tactic(auto)]
 
 mod cell;

@@ -24,11 +24,13 @@
 //! ```
 //!
 //! Promised: a writer gives the entry's one body, as `specs/Spelling` states it; it has 1 to 65,536
-//! bytes, as a journal takes it. A reader gives an
-//! entry exactly where the body is that entry's, to its last byte, and the entry is within the
-//! bounds of `claim_types/specs/EntryBounds`; it gives `None` exactly where there is no such entry. No body is that
-//! of two entries ([`one_service_entry`], [`one_cell_entry`]). Whether an entry may come in its turn
-//! is no matter of this crate.
+//! bytes, as a journal takes it. A reader gives an entry exactly where the body is that entry's, to its
+//! last byte, and the entry is within the bounds of `claim_types/specs/EntryBounds`; it gives `None`
+//! exactly where there is no such entry. No body is that of two entries ([`one_service_entry`],
+//! [`one_cell_entry`]). Whether an entry may come in its turn is no matter of this crate.
+//!
+//! It stands on `claim_types`, and on `uuid` for the bytes of leases. A caller of a writer keeps that the
+//! entry is within its bounds; a reader takes any bytes.
 #![tactic(auto)]
 
 mod codes;

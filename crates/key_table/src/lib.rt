@@ -9,13 +9,14 @@
 //! ```
 //!
 //! Promised: contracts see a [`KeyMap`] as a finite map in the order of keys, and each call as a look-up,
-//! an insertion or a removal in it. They see [`Keys`] as two finite maps, of the holders and of the naming leases, and
-//! each call as an insertion or a removal in them. A key that nobody holds and no lease names has no
-//! entry. Only [`KeyMap::put`], [`Keys::name`] and [`Keys::hold`] take memory, and after want of it the
-//! maps are as they were. A caller of [`KeyMap::change`] and [`Keys::claim`] keeps that the key is there.
+//! an insertion or a removal in it. They see [`Keys`] as two finite maps, of the holders and of the naming
+//! leases, and each call as an insertion or a removal in them. A key that nobody holds and no lease names
+//! has no entry. Only [`KeyMap::put`], [`Keys::name`] and [`Keys::hold`] take memory, and after want of it
+//! the maps are as they were.
 //!
-//! It stands on one hash map for each bucket, over the bytes of the keys' values, whose hasher has a
-//! fixed seed: values that are chosen to collide make look-ups slow, and never wrong.
+//! It stands on `claim_types`, and on one hash map for each bucket, over the bytes of the keys' values,
+//! whose hasher has a fixed seed: values that are chosen to collide make look-ups slow, and never wrong.
+//! A caller of [`KeyMap::change`] and [`Keys::claim`] keeps that the key is there.
 #![tactic(auto)]
 
 mod key_map;

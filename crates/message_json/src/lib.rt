@@ -15,6 +15,10 @@
 //! for the value that `serde_json` reads; the writers give exactly their texts; and what a writer
 //! wrote of a message within its bounds is read again as the same, as a clause of the writer and as
 //! the laws [`requests_return`] and [`replies_return`].
+//!
+//! It stands on `claim_types`, on `serde_json` and `json` for the texts, and on `uuid` for those of leases.
+//! A caller of a writer keeps that the message can be written: its leases are within their bounds, and its
+//! texts are UTF-8. A reader takes any bytes.
 #![tactic(auto)]
 
 mod fault;

@@ -6,8 +6,8 @@ ghost use Rattle.reconciler.specs.Agent.{IsReady};
 use crate::{CellAgent, Outcome};
 use cell_store::CellStore;
 use claim_types::{
-    BegunResult, Change, GREATEST_ATTEMPT, Kind, LeaseId, LeaseIds, LeasePage, RangedResult, Reply,
-    Request, Text,
+    BegunResult, Change, CommittedResult, Denial, GREATEST_ATTEMPT, Kind, LeaseId, LeaseIds,
+    LeasePage, RangedResult, Reply, Request, RolledBackResult, Text,
 };
 use disk_journal::{Disk, MemoryDisk, make};
 use std::alloc::Global;
@@ -194,5 +194,81 @@ fn a_page_sends_what_each_lease_needs(rt: HostRuntime) -> Result<(), Fail> {
     for (request, expected) in outcome.to_send.as_slice().iter().zip(wanted.iter()) {
         assert_eq!(rt; what(request), *expected);
     }
+    Ok(())
+}
+
+// Whether a new agent, with nothing pending, does nothing at a reply.
+fn passes(alloc: Global, reply: &Reply) -> Result<bool, Fail>
+    requires { IsReply reply.now }
+{
+    let mut disk = MemoryDisk::new(alloc, &[1], 4_096, Vec::new(alloc))?;
+    let mut agent = open(alloc, &mut disk)?;
+    let outcome = hear(alloc, &mut disk, &mut agent, reply)?;
+    Ok(is_nothing(&outcome) && agent.pending() == 0 && agent.store().known().len() == 1)
+}
+
+// A reply to a begin, a commit and a rollback of a lease.
+fn passes_lease(alloc: Global, lease: LeaseId) -> Result<bool, Fail>
+    requires { IsLease lease }
+{
+    let good = BegunResult::Good;
+    let denied = BegunResult::Denied(Denial::TooManyOpen);
+    let committed = CommittedResult::Good;
+    let rolled_back = RolledBackResult::Good;
+    Ok(
+        passes(
+            alloc,
+            &Reply::Begun {
+                lease,
+                result: good,
+            },
+        )? && passes(
+            alloc,
+            &Reply::Begun {
+                lease,
+                result: denied,
+            },
+        )? && passes(
+            alloc,
+            &Reply::Committed {
+                lease,
+                result: committed,
+            },
+        )? && passes(
+            alloc,
+            &Reply::RolledBack {
+                lease,
+                result: rolled_back,
+            },
+        )?,
+    )
+}
+
+#[test]
+fn an_idle_agent_passes_over_replies(rt: HostRuntime) -> Result<(), Fail> {
+    let alloc = rt.alloc();
+    assert!(rt; passes_lease(alloc, A)?);
+    assert!(rt; passes_lease(alloc, OTHER)?);
+    let result = RangedResult::Good {
+        low: 1_001,
+        high: 2_000,
+    };
+    let too_far = Reply::Ranged {
+        cell: 1,
+        number: 3,
+        result,
+    };
+    assert!(rt; passes(alloc, &too_far)?);
+    let of_another = Reply::Ranged {
+        cell: 2,
+        number: 2,
+        result,
+    };
+    assert!(rt; passes(alloc, &of_another)?);
+    let page = LeasePage {
+        leases: LeaseIds::new(alloc),
+        more: true,
+    };
+    assert!(rt; passes(alloc, &Reply::Leases { cell: 1, page })?);
     Ok(())
 }

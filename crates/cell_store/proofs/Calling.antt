@@ -14,13 +14,14 @@ use Rattle.claim_laws.specs.Files.{Store, store_turn}
 use Rattle.disk_journal.specs.declared.disk.Disk.{Ghosts}
 use Rattle.disk_journal.specs.Journal.{JournalState}
 use Rattle.disk_journal.specs.Effects.{StaysElsewhere, CountsOwn, Adds, AddsAtMost, LeavesBodyInDoubt}
-use Rattle.disk_journal.specs.Entries.{TouchesOnly}
+use Rattle.cells_base.specs.Lists.{with_entry}
+use Rattle.disk_journal.specs.Entries.{TouchesOnly, Rests as RestsWith}
 use Rattle.disk_journal.proofs.Entries.{nothing_at_most}
 use Rattle.disk_journal.proofs.Moments.{OnlyNow}
 use Rattle.entry_codec.specs.Spelling.{cell_entry_bytes}
 use Rattle.cell_store.specs.declared.state.CellState.{CellState}
 use Rattle.cell_store.specs.declared.store.CellStore.{CellStore}
-use Rattle.cell_store.specs.Store.{store, kept, stored, keeper, IsKept, IsStore}
+use Rattle.cell_store.specs.Store.{store, kept, stored, keeper, IsKept, IsStore, Rests}
 use Rattle.cell_store.specs.Calls.{Writes, WritesAtMost, LeavesInDoubt, MayGetRow, MayBeKept, with_record, without_row, with_range, fits_now}
 use Rattle.cell_store.proofs.Keeping.{Rowless, Fits, fits_says, record_kept, row_gone_kept, range_kept}
 use Rattle.cell_store.proofs.Replaying.{is_within}
@@ -46,6 +47,12 @@ module _ (before : CellStore) (is : IsStore before) where
 
   pub touches : {D : Type 0} (g : Ghosts D) (old new : D) → StaysElsewhere g before.journal.file old new → CountsOwn g before.journal.file old new → TouchesOnly g before.cell old new
   touches g old new elsewhere counts = subst (λ file. TouchesOnly g file old new) is.file (record { elsewhere = elsewhere; counts = counts })
+
+  -- at rest again with the entry
+  pub still_rests : {D : Type 0} (g : Ghosts D) (old new : D) (now : CellStore) (e : CellEntry) → Rests g old before → Writes g old new before now e → now.cell ≡ before.cell → Rests g new now
+  still_rests g old new now e rests wrote same = λ tells.
+      let it = rests tells in
+      (with_entry it.0 (Some e), subst (λ cell. RestsWith g (store cell) new (keeper now) (with_entry it.0 (Some e))) (sym same) (wrote tells it.0 it.1))
 
   -- no call of the disk was made
   pub writes_nothing : {D : Type 0} (g : Ghosts D) (d : D) (e : CellEntry) → OnlyNow g → WritesAtMost g d d before e

@@ -35,3 +35,6 @@ mod store;
 
 pub use fault::{CellOpenFault, RecordFault, StoreFault};
 pub use store::CellStore;
+
+#[cfg(test)]
+mod tests;

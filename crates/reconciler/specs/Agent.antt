@@ -1,5 +1,5 @@
 -- The agent over its store: what it keeps, and what its calls answer.
-use Rattle.std.specs.Prelude.{◌≡◌, Option, Some, None, Result, Ok, Err}
+use Rattle.std.specs.Prelude.{◌≡◌, IsTrue, Option, Some, None, Result, Ok, Err}
 use Rattle.claim_types.specs.declared.lease.LeaseId.{LeaseId}
 use Rattle.claim_types.specs.declared.rule.Rule.{Rule}
 use Rattle.claim_types.specs.declared.rule.Rule.TheVariants.{Memory}
@@ -65,6 +65,12 @@ pub record IsHeard (heard : Heard) (now : CellAgent) (outcome : Outcome) : Type 
 -- the agent is at rest
 abbrev pub Rests : {D : Type 0} → Ghosts D → D → CellAgent → Type 0
 Rests g d a = IsAtRest g (store a.store.cell) d (keeper a.store)
+
+-- an agent that may be handed a reply: it is live, and at rest on this disk
+pub record IsReady {D : Type 0} (g : Ghosts D) (d : D) (a : CellAgent) : Type 0 where
+  pub agent : IsAgent a
+  pub live : IsTrue a.store.journal.live
+  pub at_rest : Rests g d a
 
 -- the entry of what was heard was written down, if it has one, and nothing else
 abbrev pub Writes : {D : Type 0} → Ghosts D → D → D → CellAgent → CellAgent → Heard → Type 0

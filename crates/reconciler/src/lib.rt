@@ -35,6 +35,8 @@
 mod agent;
 mod attempts;
 mod outcome;
+#[cfg(test)]
+mod tests;
 
 pub use agent::CellAgent;
 pub use claim_types::Ended;

@@ -33,4 +33,4 @@ module _ (tree : Tree) (known : List Range) (within : IsWithin tree known) (r : 
 pub returns : goal.returns
 returns c =
     either c.args.tree.now KNOWN c.requires (record { id = c.args.id; kind = c.args.kind; parent = c.args.parent; name = c.in_ok-name.name })
-        c.add.result c.add.new.self c.add.ensures.answer c.add.ensures.after c.add.ensures.err
+    c.add.result c.add.new.self c.add.ensures.answer c.add.ensures.after c.add.ensures.err

@@ -1,5 +1,5 @@
 use crate::{CellOpenFault, CellStore};
-use claim_types::{Change, Kind, LeaseId, Range, Text};
+use claim_types::{Change, Kind, LeaseId, NoMemory, Range, Text};
 use disk_journal::{Disk, FuseDisk, MemoryDisk};
 use std::alloc::Global;
 use std::test::Fail;
@@ -146,6 +146,15 @@ fn each_entry_has_its_turn(rt: HostRuntime) -> Result<(), Fail> {
     Ok(())
 }
 
+// The create of the organization `acme`.
+fn acme(alloc: Global) -> Result<Change, NoMemory> {
+    Ok(Change::Create {
+        kind: Kind::Organization,
+        parent: 0,
+        name: Text::from_slice(alloc, b"acme")?,
+    })
+}
+
 // Opens the store of cell 1, and records the organization `acme` in its first range, under the lease of the
 // present epoch's first attempt. Its row is taken away again if that is asked. Nothing is given where a call
 // fails, or the store is not a new one.
@@ -168,13 +177,8 @@ fn keep<D: Disk>(alloc: Global, disk: &mut D, gone: bool) -> Option<CellStore> {
     let Ok(()) = store.range_got(alloc, disk, range) else {
         return None;
     };
-    let Ok(name) = Text::from_slice(alloc, b"acme") else {
+    let Ok(change) = acme(alloc) else {
         return None;
-    };
-    let change = Change::Create {
-        kind: Kind::Organization,
-        parent: 0,
-        name,
     };
     let Ok(ops) = store.tree().operations_of(alloc, &change, store.known()) else {
         return None;

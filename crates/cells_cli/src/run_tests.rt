@@ -155,43 +155,47 @@ fn answers_what_is_due(rt: HostRuntime) -> Result<(), Fail> {
     Ok(())
 }
 
+// Two cells with one id.
+const TWICE: &[u8] =
+    b"[[cell]]\nid = 1\nprefix = \"a\"\nwidth = 1\n[[cell]]\nid = 1\nprefix = \"b\"\nwidth = 1\n";
+
+// Words and configurations that are refused: the status, its number, and the last line.
+const REFUSED: [(&str, &[u8], Status, u8, &[u8]); 12] = [
+    ("", b"", Status::Usage, 2, b"usage\n"),
+    ("up now", b"", Status::Usage, 2, b"usage\n"),
+    ("replay --cells", CELLS, Status::Usage, 2, b"usage\n"),
+    ("replay --registry 1", CELLS, Status::Usage, 2, b"usage\n"),
+    ("init 0", CELLS, Status::Usage, 2, b"usage\n"),
+    ("init 02", CELLS, Status::Usage, 2, b"usage\n"),
+    ("init 1000", CELLS, Status::Usage, 2, b"usage\n"),
+    ("init +1", CELLS, Status::Usage, 2, b"usage\n"),
+    ("init 4", CELLS, Status::Usage, 2, b"usage\n"),
+    (
+        REGISTRY,
+        TWICE,
+        Status::ConfigRegistry { number: 5 },
+        3,
+        b"config registry 5\n",
+    ),
+    (
+        REGISTRY,
+        b"",
+        Status::ConfigRegistry { number: 3 },
+        3,
+        b"config registry 3\n",
+    ),
+    (
+        REGISTRY,
+        b"[",
+        Status::ConfigRegistry { number: 1 },
+        3,
+        b"config registry 1\n",
+    ),
+];
+
 #[test]
 fn refuses_words_and_configurations(rt: HostRuntime) -> Result<(), Fail> {
-    let twice =
-        b"[[cell]]\nid = 1\nprefix = \"a\"\nwidth = 1\n[[cell]]\nid = 1\nprefix = \"b\"\nwidth = 1\n";
-    let rows = [
-        ("", b"".as_slice(), Status::Usage, 2, b"usage\n".as_slice()),
-        ("up now", b"", Status::Usage, 2, b"usage\n"),
-        ("replay --cells", CELLS, Status::Usage, 2, b"usage\n"),
-        ("replay --registry 1", CELLS, Status::Usage, 2, b"usage\n"),
-        ("init 0", CELLS, Status::Usage, 2, b"usage\n"),
-        ("init 02", CELLS, Status::Usage, 2, b"usage\n"),
-        ("init 1000", CELLS, Status::Usage, 2, b"usage\n"),
-        ("init +1", CELLS, Status::Usage, 2, b"usage\n"),
-        ("init 4", CELLS, Status::Usage, 2, b"usage\n"),
-        (
-            REGISTRY,
-            twice.as_slice(),
-            Status::ConfigRegistry { number: 5 },
-            3,
-            b"config registry 5\n",
-        ),
-        (
-            REGISTRY,
-            b"",
-            Status::ConfigRegistry { number: 3 },
-            3,
-            b"config registry 3\n",
-        ),
-        (
-            REGISTRY,
-            b"[",
-            Status::ConfigRegistry { number: 1 },
-            3,
-            b"config registry 1\n",
-        ),
-    ];
-    for (words, config, want, code, last) in rows {
+    for (words, config, want, code, last) in REFUSED {
         let (status, out) = ran(rt.alloc(), words, config, THREE, 100)?;
         assert_eq!(rt; status, want);
         assert_eq!(rt; status.code(), code);

@@ -81,17 +81,30 @@ fn is_route(key: &ClaimKey, value: &[u8]) -> bool {
     key.bucket == Bucket::Route && key.value.as_slice() == value
 }
 
+// Whether the create in this place is of a route, for the record with this identifier.
+fn creates(ops: &Operations, at: usize, row: u64, value: &[u8]) -> bool {
+    match ops.creates.as_slice().get(at) {
+        Some(create) => create.origin.row == row && is_route(&create.key, value),
+        None => false,
+    }
+}
+
+// Whether the destroyed key in this place is a route.
+fn destroys(ops: &Operations, at: usize, value: &[u8]) -> bool {
+    match ops.destroys.as_slice().get(at) {
+        Some(key) => is_route(key, value),
+        None => false,
+    }
+}
+
 #[test]
 fn a_rename_takes_what_is_below_along(rt: HostRuntime) -> Result<(), Fail> {
     let alloc = rt.alloc();
     let tree = some_records(alloc)?;
     let ops = operations(alloc, &tree, rename(alloc, 2, b"H")?)?;
-    let creates = ops.creates.as_slice();
-    assert!(rt; creates.len() == 2 && ops.destroys.len() == 2);
-    assert!(rt; is_route(&creates[0].key, b"h") && creates[0].origin.row == 2);
-    assert!(rt; is_route(&creates[1].key, b"h/p") && creates[1].origin.row == 3);
-    assert!(rt; is_route(&ops.destroys.as_slice()[0], b"g"));
-    assert!(rt; is_route(&ops.destroys.as_slice()[1], b"g/p"));
+    assert!(rt; ops.creates.len() == 2 && ops.destroys.len() == 2);
+    assert!(rt; creates(&ops, 0, 2, b"h") && creates(&ops, 1, 3, b"h/p"));
+    assert!(rt; destroys(&ops, 0, b"g") && destroys(&ops, 1, b"g/p"));
     assert!(rt; tree.find_path(b"g/p/issues") == Some(3) && tree.find_path(b"gp").is_none());
     Ok(())
 }

@@ -1,0 +1,9 @@
+pub mod Heads
+pub mod Messages
+pub mod Fields
+pub mod Within
+pub mod Settles
+pub mod Written
+pub mod Fits
+pub mod Paths
+pub mod Gathers

@@ -6,3 +6,4 @@ mod Settled
 mod Sides
 mod Written
 mod Router
+mod Returned

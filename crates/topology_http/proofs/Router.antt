@@ -175,7 +175,7 @@ ascii [] all i = omega arith
 ascii (b ∷ bs) all zero = ltb-true b 128 (and_left (nat_lt b 128) (list_all (λ c. nat_lt c 128) bs) all)
 ascii (b ∷ bs) all (suc i) = ascii bs (and_right (nat_lt b 128) (list_all (λ c. nat_lt c 128) bs) all) i
 
-path_text : (a : Ask) → IsUtf8 (path_of a)
+pub path_text : (a : Ask) → IsUtf8 (path_of a)
 path_text ask.Begin = IsUtf8-from_ascii _ (ascii (path_of ask.Begin) refl)
 path_text ask.Commit = IsUtf8-from_ascii _ (ascii (path_of ask.Commit) refl)
 path_text ask.Rollback = IsUtf8-from_ascii _ (ascii (path_of ask.Rollback) refl)

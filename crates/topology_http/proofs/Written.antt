@@ -23,7 +23,7 @@ use Rattle.topology_http.specs.declared.fault.HttpFault.{HttpFault}
 use Rattle.topology_http.specs.declared.message.Side.TheVariants.{Request, Response}
 use Rattle.topology_http.specs.Heads.{Head, HeadAnswer, Whole, Asked, Answered, of_request, of_response}
 use Rattle.topology_http.specs.Messages.{Taken, values, first_of, number_in, length_behind, message_with, message_behind, message_after, IsReadAs, ◌>>=◌}
-use Rattle.topology_http.specs.Written.{reply_text, written_reply, request_text, request_head_text, written_request, head_fields, field_of, content_type, content_length, connection}
+use Rattle.topology_http.specs.Written.{phrase_of, reply_head_text, reply_text, written_reply, request_text, request_head_text, written_request, head_fields, field_of, content_type, content_length, connection}
 use Rattle.topology_http.specs.Fits.{IsAddress, IsCode}
 use Rattle.http.specs.StatusCode.{reason_phrase}
 use Rattle.topology_http.proofs.Settled.{whole}
@@ -60,7 +60,7 @@ trimmed_decimal n small =
     let all = decimal_digits n small in
     trim_ows_space (decimal n) (digits_start (decimal n) all) (digits_start (reverse (decimal n)) (AllPass-reverse is_ascii_digit (decimal n) all))
 
-decimal_value : (n : ℕ) → n ≤ BODY → AllPass is_value_byte (decimal n)
+pub decimal_value : (n : ℕ) → n ≤ BODY → AllPass is_value_byte (decimal n)
 decimal_value n small = All-weaker (λ b. is_ascii_digit b ≡ true) (λ b. is_value_byte b ≡ true) (λ b digit. (digit_visible b digit).1) (decimal n) (decimal_digits n small)
 
 -- ---- heads
@@ -109,7 +109,7 @@ one_text path node body =
 literal_token : (text : List ℕ) → 0 < length text → list_all is_token_byte text ≡ true → IsToken text
 literal_token text some pass = (some, AllPass-from_list_all is_token_byte text pass)
 
-literal_value : (text : List ℕ) → list_all is_value_byte text ≡ true → AllPass is_value_byte text
+pub literal_value : (text : List ℕ) → list_all is_value_byte text ≡ true → AllPass is_value_byte text
 literal_value text pass = AllPass-from_list_all is_value_byte text pass
 
 value_behind_space : (value : List ℕ) → AllPass is_value_byte value → AllPass is_value_byte (32 ∷ value)
@@ -245,9 +245,6 @@ reply_lengths : (a g s p e t l d k x : List ℕ)
     ≡ length a + (length g + (length s + (length p + (length e + (length t + (length e + (length l + (length d + (length e + (length k + (length e + (length e + length x))))))))))))
 reply_lengths a g s p e t l d k x = simp length-append
 
-abbrev phrase_of : ℕ → List ℕ
-phrase_of code = unwrap_or (reason_phrase code) []
-
 reply_printed : (code : ℕ) (body : List ℕ) → print_response (written_reply code (length body)) ++ body
     ≡ codes "HTTP/1.1 " ++ (decimal code ++ (codes " " ++ (phrase_of code ++ (13 ∷ 10 ∷ [] ++ (codes "Content-Type: application/json" ++ (13 ∷ 10 ∷ [] ++ (codes "Content-Length: " ++ (decimal (length body) ++ (13 ∷ 10 ∷ [] ++ (codes "Connection: close" ++ (13 ∷ 10 ∷ [] ++ (13 ∷ 10 ∷ [] ++ body))))))))))))
 reply_printed code body =
@@ -261,6 +258,19 @@ unfolding reply_text
 reply_regroup code body =
     reply_as_written (codes "HTTP/1.1 ") (decimal code) (codes " ") (phrase_of code) (13 ∷ 10 ∷ []) (codes "Content-Type: application/json") (codes "Content-Length: ") (decimal (length body)) (codes "Connection: close") body
     ∙ sym (reply_printed code body)
+
+reply_as_formatted : (a g s p e t l d k x : List ℕ)
+    → (a ++ (g ++ (s ++ (p ++ ((e ++ t ++ e ++ l) ++ (d ++ (e ++ k ++ e ++ e))))))) ++ x
+    ≡ a ++ (g ++ (s ++ (p ++ (e ++ (t ++ (e ++ (l ++ (d ++ (e ++ (k ++ (e ++ (e ++ x))))))))))))
+reply_as_formatted a g s p e t l d k x = simp append_assoc
+
+pub one_reply_text : (code : ℕ) (body : List ℕ) → reply_head_text code (phrase_of code) (length body) ++ body ≡ reply_text code body
+unfolding reply_text
+one_reply_text code body =
+    let end = 13 ∷ 10 ∷ [] in
+    let d = decimal (length body) in
+    reply_as_formatted (codes "HTTP/1.1 ") (decimal code) (codes " ") (phrase_of code) end (codes "Content-Type: application/json") (codes "Content-Length: ") d (codes "Connection: close") body
+    ∙ sym (reply_as_written (codes "HTTP/1.1 ") (decimal code) (codes " ") (phrase_of code) end (codes "Content-Type: application/json") (codes "Content-Length: ") d (codes "Connection: close") body)
 
 reply_is_head : (code n : ℕ) → IsCode code → n ≤ BODY → IsResponseHead (written_reply code n)
 reply_is_head code n is small = record { minor = omega arith; digits = is.digits; reason = is.phrase; fields = fields_are n small }

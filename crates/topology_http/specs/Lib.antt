@@ -5,5 +5,7 @@ pub mod Within
 pub mod Settles
 pub mod Written
 pub mod Fits
+pub mod Requests
+pub mod Replies
 pub mod Paths
 pub mod Gathers

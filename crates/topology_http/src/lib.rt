@@ -27,6 +27,7 @@ mod laws;
 mod limits;
 mod message;
 mod number;
+mod requests;
 mod routes;
 mod writer;
 
@@ -36,4 +37,5 @@ pub use gather::{Gather, Progress};
 pub use laws::{codes_are, fronts_wait, readings_settle, replies_return, requests_return};
 pub use limits::{HEAD_BYTES, HEAD_FIELDS};
 pub use message::{First, Message, Side, read_message};
+pub use requests::message_of;
 pub use routes::Routes;

@@ -1,5 +1,5 @@
 -- The message of a request, or of a reply, is read as it again.
-use Rattle.std.proofs.Common.{◌≡◌, ℕ, ◌<◌, ◌≤◌, ◌+◌, true, List, ◌++◌, length, sym, ap, ◌∙◌, refl, arith, subst, Result, Ok, Err, codes, IsTrue, decimal, IfOk}
+use Rattle.std.proofs.Common.{◌≡◌, ℕ, ◌<◌, ◌≤◌, ◌+◌, true, List, ◌++◌, length, sym, ap, ◌∙◌, refl, arith, subst, Result, Ok, Err, codes, IsTrue, decimal, IfOk, Option, Some, None}
 use Rattle.std.specs.List.{list_all}
 use Rattle.std.specs.Str.{IsUtf8}
 use Rattle.std.proofs.lemmas.Fmt.{length-decimal-le}
@@ -10,20 +10,35 @@ use Rattle.httparse.specs.Grammar.{AllPass, is_uri_byte, is_value_byte}
 use Rattle.claim_types.specs.declared.limits.TheConstants.{BODY, GREATEST_CELL}
 use Rattle.claim_types.specs.declared.message.Request.{Request}
 use Rattle.claim_types.specs.declared.message.Request.TheVariants.{Begin, Commit, Rollback, List as ListRequest, Range, Claims, Classify, Page}
-use Rattle.claim_types.specs.MessageBounds.{IsRequest}
+use Rattle.claim_types.specs.MessageBounds.{IsRequest, IsReply}
+use Rattle.claim_types.specs.declared.question.Class.{Class}
+use Rattle.claim_types.specs.declared.question.Class.TheVariants.{Cell as InCell, NotFound, UnknownCell}
+use Rattle.claim_types.specs.declared.message.BegunResult.{BegunResult}
+use Rattle.claim_types.specs.declared.message.BegunResult.TheVariants.{Good, Denied}
+use Rattle.claim_types.specs.declared.message.CommittedResult.{CommittedResult}
+use Rattle.claim_types.specs.declared.message.CommittedResult.TheVariants as committed
+use Rattle.claim_types.specs.declared.message.RolledBackResult.{RolledBackResult}
+use Rattle.claim_types.specs.declared.message.RolledBackResult.TheVariants as rolled_back
+use Rattle.claim_types.specs.declared.message.RangedResult.{RangedResult}
+use Rattle.claim_types.specs.declared.message.RangedResult.TheVariants as ranged
+use Rattle.claim_types.specs.declared.message.Reply.{Reply}
+use Rattle.claim_types.specs.declared.message.Reply.TheVariants as reply
+use Rattle.message_json.specs.ReplyReader.{reply_of}
+use Rattle.message_json.specs.ReplyWriter.{reply_text as reply_body}
 use Rattle.message_json.specs.RequestReader.{request_of}
 use Rattle.message_json.specs.RequestWriter.{request_text as body_of}
 use Rattle.topology_http.specs.declared.ask.Ask.{Ask}
 use Rattle.topology_http.specs.declared.ask.Ask.TheVariants as ask
 use Rattle.topology_http.specs.declared.fault.HttpFault.{HttpFault}
 use Rattle.topology_http.specs.declared.message.Side.TheVariants as side
-use Rattle.topology_http.specs.Fits.{IsAddress}
+use Rattle.topology_http.specs.Fits.{IsAddress, IsCode}
 use Rattle.topology_http.specs.Messages.{Taken, IsReadAs}
 use Rattle.topology_http.specs.Paths.{path_of, dispatched, dispatch_of}
+use Rattle.topology_http.specs.Replies.{begun_code, committed_code, rolled_back_code, ranged_code, class_code, found_code, code_of, message_of as reply_message, Returns as ReplyReturns}
 use Rattle.topology_http.specs.Requests.{ask_of, host_of, message_of, Returns}
-use Rattle.topology_http.specs.Written.{request_text}
+use Rattle.topology_http.specs.Written.{request_text, reply_text}
 use Rattle.topology_http.proofs.Router.{path_text}
-use Rattle.topology_http.proofs.Written.{literal_value, decimal_value, request_back}
+use Rattle.topology_http.proofs.Written.{literal_value, decimal_value, request_back, reply_back, codes_are}
 
 -- ---- the address of a request
 
@@ -92,3 +107,68 @@ module _ {E : Type 0} where
     same = subst (λ b. request_of b ≡ Ok request) is_body (back is);
   }
   request_again request path host body (Err e) is_path is_host is_body back is_text = tt
+
+-- ---- the code of a reply
+
+good_code : IsCode 200
+good_code = codes_are.0
+
+missing_code : IsCode 404
+missing_code = codes_are.1
+
+refused_code : IsCode 409
+refused_code = codes_are.2
+
+elsewhere_code : IsCode 421
+elsewhere_code = codes_are.3
+
+begun_is : (result : BegunResult) → IsCode (begun_code result)
+begun_is Good = good_code
+begun_is (Denied denial) = refused_code
+
+committed_is : (result : CommittedResult) → IsCode (committed_code result)
+committed_is committed.Good = good_code
+committed_is committed.Unknown = missing_code
+committed_is committed.WasRolledBack = refused_code
+
+rolled_back_is : (result : RolledBackResult) → IsCode (rolled_back_code result)
+rolled_back_is rolled_back.Good = good_code
+rolled_back_is rolled_back.WasCommitted = refused_code
+
+ranged_is : (result : RangedResult) → IsCode (ranged_code result)
+ranged_is (ranged.Good low high) = good_code
+ranged_is ranged.UnknownCell = missing_code
+ranged_is (ranged.TooFar next) = refused_code
+ranged_is (ranged.Exhausted last) = refused_code
+
+class_is : (class : Class) → IsCode (class_code class)
+class_is (InCell id) = good_code
+class_is NotFound = missing_code
+class_is UnknownCell = missing_code
+
+found_is : (found : Option ℕ) → IsCode (found_code found)
+found_is None = elsewhere_code
+found_is (Some id) = good_code
+
+code_is : (answer : Reply) → IsCode (code_of answer)
+code_is (reply.Begun lease result) = begun_is result
+code_is (reply.Committed lease result) = committed_is result
+code_is (reply.RolledBack lease result) = rolled_back_is result
+code_is (reply.Leases cell page) = good_code
+code_is (reply.Ranged cell n result) = ranged_is result
+code_is (reply.Claims cell bucket first last after page) = good_code
+code_is (reply.Classified question class) = class_is class
+code_is (reply.Page cell path named found) = found_is found
+code_is (reply.NoCell cell) = missing_code
+
+module _ {E : Type 0} where
+  pub reply_again : (answer : Reply) (code : ℕ) (body : List ℕ) (result : Result (List ℕ) E) → code ≡ code_of answer
+      → body ≡ reply_body answer → (IsReply answer → reply_of body ≡ Ok answer) → IfOk result (λ text. text ≡ reply_text code body)
+      → IfOk result (λ text. IsReply answer → length (reply_body answer) ≤ BODY → (rest : List ℕ) (r : Result Taken HttpFault) → IsReadAs side.Response (text ++ rest) r → ReplyReturns answer r)
+  reply_again answer code body (Ok text) is_code is_body back is_text = λ is small rest r read. record {
+    message = reply_back (code_of answer) (reply_body answer) rest (code_is answer) small r
+        (subst (λ t. IsReadAs side.Response (t ++ rest) r)
+        (is_text ∙ ap (λ n. reply_text n body) is_code ∙ ap (λ b. reply_text (code_of answer) b) is_body) read);
+    same = subst (λ b. reply_of b ≡ Ok answer) is_body (back is);
+  }
+  reply_again answer code body (Err e) is_code is_body back is_text = tt

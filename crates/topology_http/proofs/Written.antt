@@ -1,5 +1,5 @@
 -- What was written is read again.
-use Rattle.std.proofs.Common.{◌≡◌, ◌⊎◌, ℕ, ◌<◌, ◌≤◌, ◌+◌, ◌-◌, ◌^◌, Bool, true, false, ◌&&◌, ◌==◌, nat_le, List, [], ◌∷◌, ◌++◌, length, take, drop, reverse, sym, ap, ◌∙◌, refl, arith, rules, subst, ⊎_elim, Result, Ok, Err, Option, Some, None, append_assoc, codes, IsTrue, decimal, map}
+use Rattle.std.proofs.Common.{◌≡◌, ◌⊎◌, ℕ, ◌<◌, ◌≤◌, ◌+◌, ◌-◌, ◌^◌, Bool, true, false, ◌&&◌, ◌==◌, nat_le, List, [], ◌∷◌, ◌++◌, length, take, drop, reverse, sym, ap, ◌∙◌, refl, arith, rules, subst, ⊎_elim, Result, Ok, Err, Option, Some, None, append_assoc, codes, IsTrue, decimal, map, IfOk}
 use Rattle.std.specs.Prelude.{slice_range, IsUtf8, unwrap_or}
 use Rattle.std.specs.List.{list_all, All}
 use Rattle.std.specs.Char.{is_ascii_digit, digit_value}
@@ -271,6 +271,15 @@ one_reply_text code body =
     let d = decimal (length body) in
     reply_as_formatted (codes "HTTP/1.1 ") (decimal code) (codes " ") (phrase_of code) end (codes "Content-Type: application/json") (codes "Content-Length: ") d (codes "Connection: close") body
     ∙ sym (reply_as_written (codes "HTTP/1.1 ") (decimal code) (codes " ") (phrase_of code) end (codes "Content-Type: application/json") (codes "Content-Length: ") d (codes "Connection: close") body)
+
+module _ {E : Type 0} where
+  pub reply_joined : (code n : ℕ) (phrase front body : List ℕ) (result : Result (List ℕ) E) → n ≡ code → phrase ≡ phrase_of code
+      → front ≡ reply_head_text n phrase (length body) → IfOk result (λ text. text ≡ front ++ body) → IfOk result (λ text. text ≡ reply_text code body)
+  reply_joined code n phrase front body (Ok t) is_code is_phrase is_head is_text =
+      is_text
+      ∙ ap (λ h. h ++ body) (is_head ∙ ap (λ k. reply_head_text k phrase (length body)) is_code ∙ ap (λ p. reply_head_text code p (length body)) is_phrase)
+      ∙ one_reply_text code body
+  reply_joined code n phrase front body (Err e) is_code is_phrase is_head is_text = tt
 
 reply_is_head : (code n : ℕ) → IsCode code → n ≤ BODY → IsResponseHead (written_reply code n)
 reply_is_head code n is small = record { minor = omega arith; digits = is.digits; reason = is.phrase; fields = fields_are n small }

@@ -1,6 +1,5 @@
 -- A message that comes in pieces: each time what the bytes so far are read as, up to the first refusal, which stays.
 use Rattle.std.specs.Prelude.{◌≡◌, ◌⊎◌, ℕ, ◌++◌, List, Option, Some, None, Result, Ok, Err}
-use Rattle.topology_http.specs.declared.gather.Gather.{Gather}
 use Rattle.topology_http.specs.declared.gather.Progress.{Progress}
 use Rattle.topology_http.specs.declared.gather.Progress.TheVariants as to
 use Rattle.topology_http.specs.declared.fault.HttpFault.{HttpFault}
@@ -8,6 +7,13 @@ use Rattle.topology_http.specs.declared.fault.HttpFault.TheVariants.{Partial, Ba
 use Rattle.topology_http.specs.declared.message.Side.{Side}
 use Rattle.topology_http.specs.Messages.{Taken, IsReadAs}
 
+-- what was gathered: whose message it is, its bytes so far, and the first refusal of them
+pub record Gathered : Type 0 where
+  pub side : Side
+  pub bytes : List ℕ
+  pub refused : Option HttpFault
+
+-- a message that does not end yet is no refusal
 abbrev pub waits : HttpFault → Result Progress HttpFault
 waits Partial = Ok to.More
 waits BadHead = Err BadHead
@@ -30,24 +36,18 @@ fault_of (Ok p) = None
 fault_of (Err e) = Some e
 
 -- the piece was taken
-pub record Takes (old : Gather) (piece : List ℕ) (result : Result Progress HttpFault) (new : Gather) : Type 0 where
-  pub side : new.side ≡ old.side
-  pub bytes : new.bytes.items ≡ old.bytes.items ++ piece
-  pub progress : IsProgressAt old.side (old.bytes.items ++ piece) result
-  pub refused : new.refused ≡ fault_of result
+pub record Takes (old : Gathered) (piece : List ℕ) (result : Result Progress HttpFault) (new : Gathered) : Type 0 where
+  pub progress : IsProgressAt old.side (old.bytes ++ piece) result
+  pub gathered : new ≡ record { side = old.side; bytes = old.bytes ++ piece; refused = fault_of result }
 
-pub record Stays (old new : Gather) : Type 0 where
-  pub side : new.side ≡ old.side
-  pub bytes : new.bytes.items ≡ old.bytes.items
-  pub refused : new.refused ≡ old.refused
+-- a piece is taken, but where memory is wanting
+abbrev pub FeedsOpen : Gathered → List ℕ → Result Progress HttpFault → Gathered → Type 0
+FeedsOpen old piece result new = Takes old piece result new ⊎ ((result ≡ Err Memory) × (new ≡ old))
 
--- a piece is taken, but where memory runs out
-abbrev pub FeedsOpen : Gather → List ℕ → Result Progress HttpFault → Gather → Type 0
-FeedsOpen old piece result new = Takes old piece result new ⊎ ((result ≡ Err Memory) × Stays old new)
-
-abbrev pub FeedsBy : Option HttpFault → Gather → List ℕ → Result Progress HttpFault → Gather → Type 0
+abbrev pub FeedsBy : Option HttpFault → Gathered → List ℕ → Result Progress HttpFault → Gathered → Type 0
 FeedsBy None old piece result new = FeedsOpen old piece result new
-FeedsBy (Some fault) old piece result new = (result ≡ Err fault) × Stays old new
+FeedsBy (Some fault) old piece result new = (result ≡ Err fault) × (new ≡ old)
 
-abbrev pub Feeds : Gather → List ℕ → Result Progress HttpFault → Gather → Type 0
+-- a further piece
+abbrev pub Feeds : Gathered → List ℕ → Result Progress HttpFault → Gathered → Type 0
 Feeds old piece result new = FeedsBy old.refused old piece result new

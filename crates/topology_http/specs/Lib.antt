@@ -7,5 +7,6 @@ pub mod Written
 pub mod Fits
 pub mod Requests
 pub mod Replies
+pub mod Faults
 pub mod Paths
 pub mod Gathers

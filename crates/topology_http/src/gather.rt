@@ -4,6 +4,7 @@ ghost use Rattle.topology_http.specs.Gathers.{IsProgressAt, Feeds, FeedsOpen, fa
 
 use crate::{HttpFault, Side, read_message};
 use std::alloc::Global;
+use std::marker::Model;
 
 /// How far a message has come.
 #[derive(Clone, Copy, Debug, PartialEq, Eq)]
@@ -12,14 +13,6 @@ pub enum Progress {
     More,
     /// It is whole, with this many bytes.
     Whole { used: u64 },
-}
-
-/// The bytes of a message so far.
-#[derive(Drop)]
-pub struct Gather {
-    side: Side,
-    bytes: Vec<u8>,
-    refused: Option<HttpFault>,
 }
 
 fn waits(fault: HttpFault) -> Result<Progress, HttpFault>
@@ -54,12 +47,27 @@ fn fault_of(progress: Result<Progress, HttpFault>) -> Option<HttpFault>
     }
 }
 
+/// The bytes of a message so far, and the first refusal of them. Contracts see it as the record of the
+/// side, the bytes and the refusal.
+#[derive(Drop)]
+pub struct Gather {
+    side: Side,
+    bytes: Vec<u8>,
+    refused: Option<HttpFault>,
+}
+
+impl Model for Gather {
+    ghost use Rattle.topology_http.specs.Gathers.{Gathered};
+
+    ghost Value = { Gathered };
+
+    ghost view = { λ g. record { side = g.side; bytes = g.bytes.items; refused = g.refused } };
+}
+
 impl Gather {
     /// No bytes yet, which takes no memory.
     pub fn new(alloc: Global, side: Side) -> Self
-        ensures side { result.side ≡ side }
-        ensures bytes { result.bytes.items ≡ [] }
-        ensures open { result.refused ≡ None }
+        ensures { result ≡ record { side = side; bytes = []; refused = None } }
     {
         Gather {
             side,
@@ -77,7 +85,9 @@ impl Gather {
         progress
     }
 
-    /// Takes a further piece, and says how far the message has come.
+    /// Takes a further piece, and says how far the message has come: what [`read_message`] says of all
+    /// bytes so far, up to its first refusal, which is repeated from then on. Bytes behind a whole
+    /// message are kept, and change nothing. After want of memory all is as it was.
     pub fn feed(&mut self, piece: &[u8]) -> Result<Progress, HttpFault>
         ensures { Feeds self.old piece.now result self.new }
     {
@@ -89,7 +99,7 @@ impl Gather {
 
     /// The bytes so far.
     pub fn bytes(&self) -> &[u8]
-        ensures { result.now ≡ self.now.bytes.items }
+        ensures { result.now ≡ self.now.bytes }
     {
         self.bytes.as_slice()
     }

@@ -20,6 +20,7 @@
 
 mod ask;
 mod fault;
+mod faults;
 mod fields;
 mod gather;
 mod head;
@@ -27,15 +28,18 @@ mod laws;
 mod limits;
 mod message;
 mod number;
+mod replies;
 mod requests;
 mod routes;
 mod writer;
 
 pub use ask::Ask;
 pub use fault::HttpFault;
+pub use faults::{message_of_body_fault, message_of_fault};
 pub use gather::{Gather, Progress};
 pub use laws::{codes_are, fronts_wait, readings_settle, replies_return, requests_return};
 pub use limits::{HEAD_BYTES, HEAD_FIELDS};
 pub use message::{First, Message, Side, read_message};
+pub use replies::message_of_reply;
 pub use requests::message_of;
 pub use routes::Routes;

@@ -6,4 +6,5 @@ mod Settled
 mod Sides
 mod Written
 mod Router
+mod FaultText
 mod Returned

@@ -23,17 +23,17 @@ fn code_of(fault: HttpFault) -> StatusCode
     }
 }
 
-fn body_of(fault: HttpFault) -> &'static [u8]
+fn body_of(fault: HttpFault) -> &'static str
     ensures { result.now ≡ spec.body_of fault }
 {
     match fault {
-        HttpFault::Partial => br#"{"fault":"partial"}"#.as_slice(),
-        HttpFault::BadHead => br#"{"fault":"bad head"}"#.as_slice(),
-        HttpFault::Chunked => br#"{"fault":"chunked"}"#.as_slice(),
-        HttpFault::NoLength => br#"{"fault":"no length"}"#.as_slice(),
-        HttpFault::TooLarge { .. } => br#"{"fault":"too large"}"#.as_slice(),
-        HttpFault::NoSuchPath => br#"{"fault":"no such path"}"#.as_slice(),
-        HttpFault::Memory => br#"{"fault":"memory"}"#.as_slice(),
+        HttpFault::Partial => r#"{"fault":"partial"}"#,
+        HttpFault::BadHead => r#"{"fault":"bad head"}"#,
+        HttpFault::Chunked => r#"{"fault":"chunked"}"#,
+        HttpFault::NoLength => r#"{"fault":"no length"}"#,
+        HttpFault::TooLarge { .. } => r#"{"fault":"too large"}"#,
+        HttpFault::NoSuchPath => r#"{"fault":"no such path"}"#,
+        HttpFault::Memory => r#"{"fault":"memory"}"#,
     }
 }
 
@@ -42,7 +42,7 @@ fn body_of(fault: HttpFault) -> &'static [u8]
 pub fn message_of_fault(alloc: Global, fault: HttpFault) -> Result<Text, NoMemory>
     ensures { IfOk result (λ text. text ≡ spec.message_of fault) }
 {
-    reply_message(alloc, code_of(fault), body_of(fault))
+    reply_message(alloc, code_of(fault), body_of(fault).as_bytes())
 }
 
 fn code_of_body(fault: BodyFault) -> StatusCode

@@ -34,8 +34,8 @@ use Rattle.topology_http.specs.declared.message.Side.TheVariants as side
 use Rattle.topology_http.specs.Fits.{IsAddress, IsCode}
 use Rattle.topology_http.specs.Messages.{Taken, IsReadAs}
 use Rattle.topology_http.specs.Paths.{path_of, dispatched, dispatch_of}
-use Rattle.topology_http.specs.Replies.{begun_code, committed_code, rolled_back_code, ranged_code, class_code, found_code, code_of, message_of as reply_message, Returns as ReplyReturns}
-use Rattle.topology_http.specs.Requests.{ask_of, host_of, message_of, Returns}
+use Rattle.topology_http.specs.Replies.{begun_code, committed_code, rolled_back_code, ranged_code, class_code, found_code, code_of, ReadsBack as ReplyReadsBack}
+use Rattle.topology_http.specs.Requests.{ask_of, host_of, ReadsBack as RequestReadsBack}
 use Rattle.topology_http.specs.Written.{request_text, reply_text}
 use Rattle.topology_http.proofs.Router.{path_text}
 use Rattle.topology_http.proofs.Written.{literal_value, decimal_value, request_back, reply_back, codes_are}
@@ -98,7 +98,7 @@ served_at ask.Line = refl
 module _ {E : Type 0} where
   pub request_again : (request : Request) (path host body : List ℕ) (result : Result (List ℕ) E) → path ≡ path_of (ask_of request) → host ≡ host_of request
       → body ≡ body_of request → (IsRequest request → request_of body ≡ Ok request) → IfOk result (λ text. text ≡ request_text path host body)
-      → IfOk result (λ text. IsRequest request → length (body_of request) ≤ BODY → (rest : List ℕ) (r : Result Taken HttpFault) → IsReadAs side.Request (text ++ rest) r → Returns request r)
+      → IfOk result (RequestReadsBack request)
   request_again request path host body (Ok text) is_path is_host is_body back is_text = λ is small rest r read. record {
     message = request_back (path_of (ask_of request)) (host_of request) (body_of request) rest (address_of request is) small r
         (subst (λ t. IsReadAs side.Request (t ++ rest) r)
@@ -114,13 +114,13 @@ good_code : IsCode 200
 good_code = codes_are.0
 
 missing_code : IsCode 404
-missing_code = codes_are.1
+missing_code = codes_are.2
 
 refused_code : IsCode 409
-refused_code = codes_are.2
+refused_code = codes_are.3
 
 elsewhere_code : IsCode 421
-elsewhere_code = codes_are.3
+elsewhere_code = codes_are.5
 
 begun_is : (result : BegunResult) → IsCode (begun_code result)
 begun_is Good = good_code
@@ -164,7 +164,7 @@ code_is (reply.NoCell cell) = missing_code
 module _ {E : Type 0} where
   pub reply_again : (answer : Reply) (code : ℕ) (body : List ℕ) (result : Result (List ℕ) E) → code ≡ code_of answer
       → body ≡ reply_body answer → (IsReply answer → reply_of body ≡ Ok answer) → IfOk result (λ text. text ≡ reply_text code body)
-      → IfOk result (λ text. IsReply answer → length (reply_body answer) ≤ BODY → (rest : List ℕ) (r : Result Taken HttpFault) → IsReadAs side.Response (text ++ rest) r → ReplyReturns answer r)
+      → IfOk result (ReplyReadsBack answer)
   reply_again answer code body (Ok text) is_code is_body back is_text = λ is small rest r read. record {
     message = reply_back (code_of answer) (reply_body answer) rest (code_is answer) small r
         (subst (λ t. IsReadAs side.Response (t ++ rest) r)

@@ -22,9 +22,9 @@ use Rattle.topology_http.specs.declared.limits.TheConstants.{HEAD_BYTES, HEAD_FI
 use Rattle.topology_http.specs.declared.fault.HttpFault.{HttpFault}
 use Rattle.topology_http.specs.declared.message.Side.TheVariants.{Request, Response}
 use Rattle.topology_http.specs.Heads.{Head, HeadAnswer, Whole, Asked, Answered, of_request, of_response}
-use Rattle.topology_http.specs.Messages.{Taken, values, first_of, number_in, length_behind, message_with, message_behind, message_after, IsReadAs, ◌>>=◌}
+use Rattle.topology_http.specs.Messages.{Taken, values, first_of, number_in, length_behind, length_of_body, message_with, message_behind, message_after, IsReadAs, ◌>>=◌}
 use Rattle.topology_http.specs.Written.{phrase_of, reply_head_text, reply_text, written_reply, request_text, request_head_text, written_request, head_fields, field_of, content_type, content_length, connection}
-use Rattle.topology_http.specs.Fits.{IsAddress, IsCode}
+use Rattle.topology_http.specs.Fits.{IsAddress, IsCode, CodesAre}
 use Rattle.http.specs.StatusCode.{reason_phrase}
 use Rattle.topology_http.proofs.Settled.{whole}
 use Rattle.topology_http.proofs.Sides.{request_says, response_says}
@@ -87,7 +87,7 @@ regroup path node body =
     (as_section end (codes "Host: ") node (codes "Content-Type: application/json") (codes "Content-Length: ") d (codes "Connection: close") body))
 
 pub length_written : (path node : List ℕ) (n : ℕ) → n ≤ BODY → length_behind (of_request (written_request path node n)) ≡ Ok n
-unfolding length_behind values
+unfolding length_of_body values
 length_written path node n small = rw (trimmed_decimal n small, number_of_decimal n small, le-ltb BODY n small) refl
 
 as_formatted : (a p b e c n t l d k x : List ℕ)
@@ -291,7 +291,7 @@ reply_fits code body is small =
     omega (arith, text, is.digits.0, is.short, length-append (print_response (written_reply code (length body))) body, length-decimal-le 5 (length body) (omega arith) (omega arith) (omega arith))
 
 reply_length : (code n : ℕ) → n ≤ BODY → length_behind (of_response (written_reply code n)) ≡ Ok n
-unfolding length_behind values
+unfolding length_of_body values
 reply_length code n small = rw (trimmed_decimal n small, number_of_decimal n small, le-ltb BODY n small) refl
 
 reply_no_cookie : (code n : ℕ) → first_of (values (codes "cookie") (of_response (written_reply code n)).fields) ≡ None
@@ -339,24 +339,24 @@ three_digits code low high =
     ⊎_elim (λ lt. omega arith) (λ le. absurd (omega (arith, numeral.1, value, pow-le-pow_right {n = 10} (omega arith) {i = length (decimal code)} {j = 2} le))) (cases_lt 2 (length (decimal code)))
 
 code_is : (code : ℕ) → 100 ≤ code → code < 1000
-    → list_all is_value_byte (unwrap_or (reason_phrase code) []) && nat_le (length (unwrap_or (reason_phrase code) [])) 100 ≡ true → IsCode code
+    → list_all is_value_byte (phrase_of code) && nat_le (length (phrase_of code)) 100 ≡ true → IsCode code
 code_is code low high phrase =
     let numeral = decimal_is_IsNumeral code (omega arith) in
     record {
       digits = (three_digits code low high, AllPass-from_list_all is_ascii_digit (decimal code) (digits_in (decimal code) numeral.0.1));
       value = numeral.1;
-      phrase = AllPass-from_list_all is_value_byte (unwrap_or (reason_phrase code) []) (and_left _ _ phrase);
-      short = leb-true (length (unwrap_or (reason_phrase code) [])) 100 (and_right _ _ phrase);
+      phrase = AllPass-from_list_all is_value_byte (phrase_of code) (and_left _ _ phrase);
+      short = leb-true (length (phrase_of code)) 100 (and_right _ _ phrase);
     }
 
-pub codes_are : IsCode 200 × IsCode 404 × IsCode 409 × IsCode 421 × IsCode 400 × IsCode 413 × IsCode 501 × IsCode 503
+pub codes_are : CodesAre
 codes_are = (
   code_is 200 (omega arith) (omega arith) refl,
+  code_is 400 (omega arith) (omega arith) refl,
   code_is 404 (omega arith) (omega arith) refl,
   code_is 409 (omega arith) (omega arith) refl,
-  code_is 421 (omega arith) (omega arith) refl,
-  code_is 400 (omega arith) (omega arith) refl,
   code_is 413 (omega arith) (omega arith) refl,
+  code_is 421 (omega arith) (omega arith) refl,
   code_is 501 (omega arith) (omega arith) refl,
   code_is 503 (omega arith) (omega arith) refl,
 )

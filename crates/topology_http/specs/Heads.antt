@@ -57,9 +57,13 @@ abbrev pub start_of : First → Start
 start_of (AskedFirst method target) = Asked method.now target.now
 start_of (AnsweredFirst status) = Answered status
 
+-- the fields that spans show in bytes
+abbrev pub fields_in : List ℕ → List HeaderSpan → List (List ℕ × List ℕ)
+fields_in bytes spans = map (header_bytes bytes) spans
+
 -- the head that spans show in bytes
 abbrev pub head_in : List ℕ → List HeaderSpan → HeadSpans → Head
-head_in bytes spans head = record { first = start_of head.first; fields = map (header_bytes bytes) (take head.fields spans); size = head.size }
+head_in bytes spans head = record { first = start_of head.first; fields = fields_in bytes (take head.fields spans); size = head.size }
 
 abbrev pub answer_in : List ℕ → List HeaderSpan → Found → HeadAnswer
 answer_in bytes spans (found.Whole head) = Whole (head_in bytes spans head)

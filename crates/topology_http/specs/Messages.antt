@@ -59,12 +59,15 @@ abbrev pub body_length : Start → Option ℕ → Result ℕ HttpFault
 body_length first None = if tells_length first then Err NoLength else Ok 0
 body_length first (Some n) = if nat_lt BODY n then Err (TooLarge n) else Ok n
 
--- how long the body is
-unfoldable pub length_behind : Head → Result ℕ HttpFault
-length_behind head =
-    length_told (values (codes "content-length") head.fields)
-    >>= unless_chunked (values (codes "transfer-encoding") head.fields)
-    >>= body_length head.first
+-- how long the body is behind a first line and fields
+unfoldable pub length_of_body : Start → List (List ℕ × List ℕ) → Result ℕ HttpFault
+length_of_body first fields =
+    length_told (values (codes "content-length") fields)
+    >>= unless_chunked (values (codes "transfer-encoding") fields)
+    >>= body_length first
+
+abbrev pub length_behind : Head → Result ℕ HttpFault
+length_behind head = length_of_body head.first head.fields
 
 -- a message as values
 pub record Taken : Type 0 where

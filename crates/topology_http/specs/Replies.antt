@@ -1,5 +1,7 @@
 -- The message of a reply: its code by its result, and its body.
-use Rattle.std.specs.Prelude.{◌≡◌, ℕ, List, length, Option, Some, None, Result, Ok}
+use Rattle.std.specs.Prelude.{◌≡◌, ◌≤◌, ◌++◌, ℕ, List, length, Option, Some, None, Result, Ok}
+use Rattle.claim_types.specs.declared.limits.TheConstants.{BODY}
+use Rattle.claim_types.specs.MessageBounds.{IsReply}
 use Rattle.claim_types.specs.declared.question.Class.{Class}
 use Rattle.claim_types.specs.declared.question.Class.TheVariants.{Cell as InCell, NotFound, UnknownCell}
 use Rattle.claim_types.specs.declared.message.BegunResult.{BegunResult}
@@ -15,8 +17,9 @@ use Rattle.claim_types.specs.declared.message.Reply.TheVariants.{Begun, Committe
 use Rattle.message_json.specs.ReplyReader.{reply_of}
 use Rattle.message_json.specs.ReplyWriter.{reply_text as body_of}
 use Rattle.topology_http.specs.declared.fault.HttpFault.{HttpFault}
+use Rattle.topology_http.specs.declared.message.Side.TheVariants as side
 use Rattle.topology_http.specs.Heads.{Answered}
-use Rattle.topology_http.specs.Messages.{Taken}
+use Rattle.topology_http.specs.Messages.{Taken, IsReadAs}
 use Rattle.topology_http.specs.Written.{reply_text}
 
 -- the codes: what was asked for was done or found, it is not there, it is refused, or another node has it
@@ -81,3 +84,9 @@ message_of reply = reply_text (code_of reply) (body_of reply)
 pub record Returns (reply : Reply) (r : Result Taken HttpFault) : Type 0 where
   pub message : r ≡ Ok (record { first = Answered (code_of reply); cookie = None; body = body_of reply; used = length (message_of reply) })
   pub same : reply_of (body_of reply) ≡ Ok reply
+
+-- a text whose body is not too long is read as the reply again, whatever follows it
+abbrev pub ReadsBack : Reply → List ℕ → Type 0
+ReadsBack reply text =
+    IsReply reply → length (body_of reply) ≤ BODY
+    → (rest : List ℕ) (r : Result Taken HttpFault) → IsReadAs side.Response (text ++ rest) r → Returns reply r

@@ -1,5 +1,7 @@
 -- The message of a request: to the path of what it asks for, at the service, or at the cell whose page it asks for.
-use Rattle.std.specs.Prelude.{◌≡◌, ℕ, List, ◌++◌, length, decimal, codes, None, Result, Ok}
+use Rattle.std.specs.Prelude.{◌≡◌, ◌≤◌, ℕ, List, ◌++◌, length, decimal, codes, None, Result, Ok}
+use Rattle.claim_types.specs.declared.limits.TheConstants.{BODY}
+use Rattle.claim_types.specs.MessageBounds.{IsRequest}
 use Rattle.claim_types.specs.declared.message.Request.{Request}
 use Rattle.claim_types.specs.declared.message.Request.TheVariants.{Begin, Commit, Rollback, List as ListRequest, Range, Claims, Classify, Page}
 use Rattle.message_json.specs.RequestReader.{request_of}
@@ -7,8 +9,9 @@ use Rattle.message_json.specs.RequestWriter.{request_text as body_of}
 use Rattle.topology_http.specs.declared.ask.Ask.{Ask}
 use Rattle.topology_http.specs.declared.ask.Ask.TheVariants as ask
 use Rattle.topology_http.specs.declared.fault.HttpFault.{HttpFault}
+use Rattle.topology_http.specs.declared.message.Side.TheVariants as side
 use Rattle.topology_http.specs.Heads.{Asked}
-use Rattle.topology_http.specs.Messages.{Taken}
+use Rattle.topology_http.specs.Messages.{Taken, IsReadAs}
 use Rattle.topology_http.specs.Paths.{path_of, dispatch_of}
 use Rattle.topology_http.specs.Written.{request_text}
 
@@ -48,3 +51,9 @@ pub record Returns (request : Request) (r : Result Taken HttpFault) : Type 0 whe
   })
   pub asked : dispatch_of (codes "POST") (path_of (ask_of request)) ≡ Ok (ask_of request)
   pub same : request_of (body_of request) ≡ Ok request
+
+-- a text whose body is not too long is read as the request again, whatever follows it
+abbrev pub ReadsBack : Request → List ℕ → Type 0
+ReadsBack request text =
+    IsRequest request → length (body_of request) ≤ BODY
+    → (rest : List ℕ) (r : Result Taken HttpFault) → IsReadAs side.Request (text ++ rest) r → Returns request r

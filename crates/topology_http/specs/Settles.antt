@@ -1,8 +1,9 @@
 -- What more bytes may change of what was read: only that a message was not whole yet. Where a head is refused the reader may also wait again, as `httparse` may at the two places that `Heads` names.
-use Rattle.std.specs.Prelude.{◌≡◌, ◌⊎◌, Result, Ok, Err, ⊤}
+use Rattle.std.specs.Prelude.{◌≡◌, ◌⊎◌, ◌++◌, ℕ, List, Result, Ok, Err, ⊤}
 use Rattle.topology_http.specs.declared.fault.HttpFault.{HttpFault}
 use Rattle.topology_http.specs.declared.fault.HttpFault.TheVariants.{Partial, BadHead, Chunked, NoLength, TooLarge, NoSuchPath, Memory}
-use Rattle.topology_http.specs.Messages.{Taken}
+use Rattle.topology_http.specs.declared.message.Side.{Side}
+use Rattle.topology_http.specs.Messages.{Taken, IsReadAs}
 
 -- what bytes are read as, and what they are read as with more behind them
 abbrev pub Settles : Result Taken HttpFault → Result Taken HttpFault → Type 0
@@ -15,6 +16,18 @@ Settles (Err (TooLarge n)) later = later ≡ Err (TooLarge n)
 Settles (Err NoSuchPath) later = later ≡ Err NoSuchPath
 Settles (Err Memory) later = later ≡ Err Memory
 
+-- more bytes change no more than that
+abbrev pub ReadingsSettle : Type 0
+ReadingsSettle =
+    (side : Side) (bytes more : List ℕ) (r later : Result Taken HttpFault) → IsReadAs side bytes r
+    → IsReadAs side (bytes ++ more) later → Settles r later
+
 -- a front of a message is read as not whole, or as that message
 abbrev pub IsFrontOf : Taken → Result Taken HttpFault → Type 0
 IsFrontOf message r = (r ≡ Err Partial) ⊎ (r ≡ Ok message)
+
+-- wherever the bytes of a message are cut
+abbrev pub FrontsWait : Type 0
+FrontsWait =
+    (side : Side) (bytes more : List ℕ) (r : Result Taken HttpFault) (message : Taken) → IsReadAs side bytes r
+    → IsReadAs side (bytes ++ more) (Ok message) → IsFrontOf message r

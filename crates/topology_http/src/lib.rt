@@ -31,6 +31,8 @@ mod number;
 mod replies;
 mod requests;
 mod routes;
+#[cfg(test)]
+mod tests;
 mod writer;
 
 pub use ask::Ask;

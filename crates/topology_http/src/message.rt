@@ -2,7 +2,7 @@
 ghost use Rattle.std.specs.Prelude.{◌≡◌, ◌≤◌, ◌+◌, codes, IfOk, List, ℕ, Ok, Err, length, take, drop, slice_range, map};
 ghost use Rattle.httparse.specs.Spans.{IsHeaderWithin, header_bytes};
 ghost use Rattle.std.specs.List.{All};
-ghost use Rattle.topology_http.specs.Heads.{start_of, head_in};
+ghost use Rattle.topology_http.specs.Heads.{start_of, fields_in, head_in};
 ghost use Rattle.topology_http.specs.Within.{IsHeadWithin};
 ghost use Rattle.topology_http.specs.Messages as spec;
 
@@ -62,7 +62,7 @@ fn told(n: Option<u64>) -> Result<Option<u64>, HttpFault>
 // The length that the fields tell.
 fn length_told(bytes: &[u8], fields: &[HeaderSpan]) -> Result<Option<u64>, HttpFault>
     requires { All (IsHeaderWithin (length bytes.now)) fields.now }
-    ensures { result ≡ spec.length_told (spec.values (codes "content-length") (map (header_bytes bytes.now) fields.now)) }
+    ensures { result ≡ spec.length_told (spec.values (codes "content-length") (fields_in bytes.now fields.now)) }
 {
     match next_named(bytes, fields, b"content-length") {
         None => Ok(None),
@@ -103,15 +103,10 @@ fn body_length(first: &First<'_>, told: Option<u64>) -> Result<u64, HttpFault>
 }
 
 // How long the body behind a head is.
-#[tactic(auto, unfolding(crate::specs::Messages::length_behind))]
-fn length_behind(
-    bytes: &[u8],
-    first: &First<'_>,
-    fields: &[HeaderSpan],
-    size: usize,
-) -> Result<u64, HttpFault>
+#[tactic(auto, unfolding(crate::specs::Messages::length_of_body))]
+fn length_behind(bytes: &[u8], first: &First<'_>, fields: &[HeaderSpan]) -> Result<u64, HttpFault>
     requires { All (IsHeaderWithin (length bytes.now)) fields.now }
-    ensures value { result ≡ spec.length_behind (record { first = start_of first.now; fields = map (header_bytes bytes.now) fields.now; size = size }) }
+    ensures value { result ≡ spec.length_of_body (start_of first.now) (fields_in bytes.now fields.now) }
     ensures bound { IfOk result (λ n. n ≤ BODY) }
 {
     let told = length_told(bytes, fields)?;
@@ -135,7 +130,7 @@ fn message_behind<'a>(
     ensures { spec.shown result ≡ spec.message_behind (head_in front.now headers.now head.now) bytes.now }
 {
     let fields = &headers[..head.fields];
-    let n = length_behind(front, &head.first, fields, head.size)?;
+    let n = length_behind(front, &head.first, fields)?;
     let used = head.size as u64 + n;
     if (bytes.len() as u64) < used {
         return Err(HttpFault::Partial);

@@ -1,12 +1,6 @@
 //! The messages of replies.
-ghost use Rattle.std.specs.Prelude.{◌≡◌, ◌≤◌, ◌++◌, IfOk, List, ℕ, Result, Ok, length};
-ghost use Rattle.claim_types.specs.declared.limits.TheConstants.{BODY};
-ghost use Rattle.claim_types.specs.MessageBounds.{IsReply};
+ghost use Rattle.std.specs.Prelude.{◌≡◌, IfOk};
 ghost use Rattle.claim_types.specs.Writable.{IsWritableReply};
-ghost use Rattle.message_json.specs.ReplyWriter.{reply_text as body_of};
-ghost use Rattle.topology_http.specs.declared.fault.HttpFault.{HttpFault};
-ghost use Rattle.topology_http.specs.declared.message.Side.TheVariants as side;
-ghost use Rattle.topology_http.specs.Messages.{IsReadAs, Taken};
 ghost use Rattle.topology_http.specs.Replies as spec;
 
 use crate::writer::reply_message;
@@ -108,7 +102,7 @@ fn code_of(reply: &Reply) -> StatusCode
 pub fn message_of_reply(alloc: Global, reply: &Reply) -> Result<Text, NoMemory>
     requires { IsWritableReply reply.now }
     ensures text { IfOk result (λ text. text ≡ spec.message_of reply.now) }
-    ensures reads_back { IfOk result (λ text. IsReply reply.now → length (body_of reply.now) ≤ BODY → (rest : List ℕ) (r : Result Taken HttpFault) → IsReadAs side.Response (text ++ rest) r → spec.Returns reply.now r) }
+    ensures reads_back { IfOk result (spec.ReadsBack reply.now) }
 {
     let body = write_reply(alloc, reply)?;
     reply_message(alloc, code_of(reply), body.as_slice())

@@ -1,13 +1,7 @@
 //! The messages of requests.
-ghost use Rattle.std.specs.Prelude.{◌≡◌, ◌≤◌, ◌++◌, IfOk, List, ℕ, Result, Ok, length};
+ghost use Rattle.std.specs.Prelude.{◌≡◌, IfOk};
 ghost use Rattle.std.specs.String.{string_bytes};
-ghost use Rattle.claim_types.specs.declared.limits.TheConstants.{BODY};
-ghost use Rattle.claim_types.specs.MessageBounds.{IsRequest};
 ghost use Rattle.claim_types.specs.Writable.{IsWritableRequest};
-ghost use Rattle.message_json.specs.RequestWriter.{request_text as body_of};
-ghost use Rattle.topology_http.specs.declared.fault.HttpFault.{HttpFault};
-ghost use Rattle.topology_http.specs.declared.message.Side.TheVariants as side;
-ghost use Rattle.topology_http.specs.Messages.{IsReadAs, Taken};
 ghost use Rattle.topology_http.specs.Requests as spec;
 
 use crate::Ask;
@@ -47,7 +41,7 @@ fn host_of(alloc: Global, request: &Request) -> Result<String, AllocError>
 pub fn message_of(alloc: Global, request: &Request) -> Result<Text, NoMemory>
     requires { IsWritableRequest request.now }
     ensures text { IfOk result (λ text. text ≡ spec.message_of request.now) }
-    ensures reads_back { IfOk result (λ text. IsRequest request.now → length (body_of request.now) ≤ BODY → (rest : List ℕ) (r : Result Taken HttpFault) → IsReadAs side.Request (text ++ rest) r → spec.Returns request.now r) }
+    ensures reads_back { IfOk result (spec.ReadsBack request.now) }
 {
     let body = write_request(alloc, request)?;
     let host = host_of(alloc, request)?;

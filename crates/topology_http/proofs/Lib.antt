@@ -4,6 +4,7 @@ mod Front
 mod Told
 mod Settled
 mod Sides
+mod Pieces
 mod Written
 mod Router
 mod FaultText

@@ -32,7 +32,7 @@ use Rattle.topology_http.specs.declared.ask.Ask.TheVariants as ask
 use Rattle.topology_http.specs.declared.fault.HttpFault.{HttpFault}
 use Rattle.topology_http.specs.declared.message.Side.TheVariants as side
 use Rattle.topology_http.specs.Fits.{IsAddress, IsCode}
-use Rattle.topology_http.specs.Messages.{Taken, IsReadAs}
+use Rattle.topology_http.specs.Messages.{Parts, IsReadAs}
 use Rattle.topology_http.specs.Paths.{path_of, dispatched, dispatch_of}
 use Rattle.topology_http.specs.Replies.{begun_code, committed_code, rolled_back_code, ranged_code, class_code, found_code, code_of, ReadsBack as ReplyReadsBack}
 use Rattle.topology_http.specs.Requests.{ask_of, host_of, ReadsBack as RequestReadsBack}
@@ -48,7 +48,7 @@ at path host some bytes text few value short = record {
   some = some;
   path_bytes = AllPass-from_list_all is_uri_byte path bytes;
   path_text = text;
-  node_bytes = value;
+  host_bytes = value;
   short = omega arith;
 }
 

@@ -4,7 +4,7 @@ use Rattle.std.specs.Prelude.{⊤, slice_range}
 use Rattle.std.proofs.lemmas.List.{take-append-le, take_all, length-append, append-nil, drop-append-le, length-drop}
 use Rattle.std.proofs.Math.Seq.{take-append-add}
 use Rattle.std.proofs.lemmas.Bool.{ltb-false, le-ltb, leb-false, cases_lt}
-use Rattle.topology_http.specs.Messages.{Taken, ◌>>=◌, message_with, message_behind, length_behind, message_after, values, first_of}
+use Rattle.topology_http.specs.Messages.{Parts, ◌>>=◌, message_with, message_behind, length_behind, message_after, values, first_of}
 use Rattle.topology_http.specs.Settles.{Settles}
 use Rattle.httparse.specs.Grammar.{Field}
 use Rattle.topology_http.specs.declared.fault.HttpFault.{HttpFault}
@@ -67,7 +67,7 @@ same_fault (TooLarge n) = refl
 same_fault NoSuchPath = refl
 same_fault Memory = refl
 
-settles_if : (a b : Bool) (m later : Taken) → (a ≡ false → b ≡ false) → (a ≡ false → later ≡ m)
+settles_if : (a b : Bool) (m later : Parts) → (a ≡ false → b ≡ false) → (a ≡ false → later ≡ m)
     → Settles (if a then Err Partial else Ok m) (if b then Err Partial else Ok later)
 settles_if true b m later still same = tt
 settles_if false b m later still same = rw (still refl, same refl) refl

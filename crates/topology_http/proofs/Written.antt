@@ -22,7 +22,7 @@ use Rattle.topology_http.specs.declared.limits.TheConstants.{HEAD_BYTES, HEAD_FI
 use Rattle.topology_http.specs.declared.fault.HttpFault.{HttpFault}
 use Rattle.topology_http.specs.declared.message.Side.TheVariants.{Request, Response}
 use Rattle.topology_http.specs.Heads.{Head, HeadAnswer, Whole, Asked, Answered, of_request, of_response}
-use Rattle.topology_http.specs.Messages.{Taken, values, first_of, number_in, length_behind, length_of_body, message_with, message_behind, message_after, IsReadAs, ◌>>=◌}
+use Rattle.topology_http.specs.Messages.{Parts, values, first_of, number_in, length_behind, length_of_body, message_with, message_behind, message_after, IsReadAs, ◌>>=◌}
 use Rattle.topology_http.specs.Written.{phrase_of, reply_head_text, reply_text, written_reply, request_text, request_head_text, written_request, head_fields, field_of, content_type, content_length, connection}
 use Rattle.topology_http.specs.Fits.{IsAddress, IsCode, CodesAre}
 use Rattle.http.specs.StatusCode.{reason_phrase}
@@ -76,19 +76,19 @@ as_section : (e c n t l d k x : List ℕ)
     ≡ c ++ (n ++ (e ++ (t ++ (e ++ (l ++ (d ++ (e ++ (k ++ (e ++ (e ++ x))))))))))
 as_section e c n t l d k x = simp (append_assoc, append-nil)
 
-pub regroup : (path node body : List ℕ) → request_text path node body ≡ print_request (written_request path node (length body)) ++ body
+pub regroup : (path host body : List ℕ) → request_text path host body ≡ print_request (written_request path host (length body)) ++ body
 unfolding request_text
-regroup path node body =
+regroup path host body =
     let end = 13 ∷ 10 ∷ [] in
     let d = decimal (length body) in
-    as_written (codes "POST ") path (codes " HTTP/1.1") end (codes "Host: ") node (codes "Content-Type: application/json") (codes "Content-Length: ") d (codes "Connection: close") body
-    ∙ sym (print_request-append (written_request path node (length body)) body
+    as_written (codes "POST ") path (codes " HTTP/1.1") end (codes "Host: ") host (codes "Content-Type: application/json") (codes "Content-Length: ") d (codes "Connection: close") body
+    ∙ sym (print_request-append (written_request path host (length body)) body
     ∙ ap (λ s. codes "POST " ++ (path ++ (codes " HTTP/1.1" ++ (end ++ s))))
-    (as_section end (codes "Host: ") node (codes "Content-Type: application/json") (codes "Content-Length: ") d (codes "Connection: close") body))
+    (as_section end (codes "Host: ") host (codes "Content-Type: application/json") (codes "Content-Length: ") d (codes "Connection: close") body))
 
-pub length_written : (path node : List ℕ) (n : ℕ) → n ≤ BODY → length_behind (of_request (written_request path node n)) ≡ Ok n
+pub length_written : (path host : List ℕ) (n : ℕ) → n ≤ BODY → length_behind (of_request (written_request path host n)) ≡ Ok n
 unfolding length_of_body values
-length_written path node n small = rw (trimmed_decimal n small, number_of_decimal n small, le-ltb BODY n small) refl
+length_written path host n small = rw (trimmed_decimal n small, number_of_decimal n small, le-ltb BODY n small) refl
 
 as_formatted : (a p b e c n t l d k x : List ℕ)
     → (a ++ (p ++ ((b ++ e ++ c) ++ (n ++ ((e ++ t ++ e ++ l) ++ (d ++ (e ++ k ++ e ++ e))))))) ++ x
@@ -96,13 +96,13 @@ as_formatted : (a p b e c n t l d k x : List ℕ)
 as_formatted a p b e c n t l d k x = simp append_assoc
 
 -- the head as it is formatted, and the body
-pub one_text : (path node body : List ℕ) → request_head_text path node (length body) ++ body ≡ request_text path node body
+pub one_text : (path host body : List ℕ) → request_head_text path host (length body) ++ body ≡ request_text path host body
 unfolding request_text
-one_text path node body =
+one_text path host body =
     let end = 13 ∷ 10 ∷ [] in
     let d = decimal (length body) in
-    as_formatted (codes "POST ") path (codes " HTTP/1.1") end (codes "Host: ") node (codes "Content-Type: application/json") (codes "Content-Length: ") d (codes "Connection: close") body
-    ∙ sym (as_written (codes "POST ") path (codes " HTTP/1.1") end (codes "Host: ") node (codes "Content-Type: application/json") (codes "Content-Length: ") d (codes "Connection: close") body)
+    as_formatted (codes "POST ") path (codes " HTTP/1.1") end (codes "Host: ") host (codes "Content-Type: application/json") (codes "Content-Length: ") d (codes "Connection: close") body
+    ∙ sym (as_written (codes "POST ") path (codes " HTTP/1.1") end (codes "Host: ") host (codes "Content-Type: application/json") (codes "Content-Length: ") d (codes "Connection: close") body)
 
 -- ---- a written head is a head of the grammar
 
@@ -130,9 +130,9 @@ is_connection : IsField connection
 unfolding is_token_byte
 is_connection = named (codes "Connection") (codes "close") (literal_token (codes "Connection") (omega arith) refl) (literal_value (codes "close") refl)
 
-is_host : (node : List ℕ) → AllPass is_value_byte node → IsField (field_of (codes "Host") node)
+is_host : (host : List ℕ) → AllPass is_value_byte host → IsField (field_of (codes "Host") host)
 unfolding is_token_byte
-is_host node pass = named (codes "Host") node (literal_token (codes "Host") (omega arith) refl) pass
+is_host host pass = named (codes "Host") host (literal_token (codes "Host") (omega arith) refl) pass
 
 is_post : IsToken (codes "POST")
 unfolding is_token_byte
@@ -144,13 +144,13 @@ fields_are n small =
     (All-cons IsField (content_length n) (connection ∷ []) (is_length n small)
     (All-cons IsField connection [] is_connection (All-nil IsField)))
 
-pub is_head : (path node : List ℕ) (n : ℕ) → IsAddress path node → n ≤ BODY → IsRequestHead (written_request path node n)
-is_head path node n address small = record {
+pub is_head : (path host : List ℕ) (n : ℕ) → IsAddress path host → n ≤ BODY → IsRequestHead (written_request path host n)
+is_head path host n address small = record {
   method = is_post;
   target = (address.some, address.path_bytes);
   target_text = address.path_text;
   minor = omega arith;
-  fields = All-cons IsField (field_of (codes "Host") node) (head_fields n) (is_host node address.node_bytes) (fields_are n small);
+  fields = All-cons IsField (field_of (codes "Host") host) (head_fields n) (is_host host address.host_bytes) (fields_are n small);
 }
 
 -- ---- its length
@@ -160,17 +160,17 @@ lengths : (a p b e c n t l d k x : List ℕ)
     ≡ length a + (length p + (length b + (length e + (length c + (length n + (length e + (length t + (length e + (length l + (length d + (length e + (length k + (length e + (length e + length x))))))))))))))
 lengths a p b e c n t l d k x = simp length-append
 
-pub head_fits : (path node body : List ℕ) → length path + length node ≤ 1000 → length body ≤ BODY
-    → length (print_request (written_request path node (length body))) ≤ HEAD_BYTES
-head_fits path node body short small =
+pub head_fits : (path host body : List ℕ) → length path + length host ≤ 1000 → length body ≤ BODY
+    → length (print_request (written_request path host (length body))) ≤ HEAD_BYTES
+head_fits path host body short small =
     let end = 13 ∷ 10 ∷ [] in
     let d = decimal (length body) in
     let text =
-    ap length (print_request-append (written_request path node (length body)) body
+    ap length (print_request-append (written_request path host (length body)) body
     ∙ ap (λ s. codes "POST " ++ (path ++ (codes " HTTP/1.1" ++ (end ++ s))))
-    (as_section end (codes "Host: ") node (codes "Content-Type: application/json") (codes "Content-Length: ") d (codes "Connection: close") body))
-    ∙ lengths (codes "POST ") path (codes " HTTP/1.1") end (codes "Host: ") node (codes "Content-Type: application/json") (codes "Content-Length: ") d (codes "Connection: close") body in
-    omega (arith, text, length-append (print_request (written_request path node (length body))) body, length-decimal-le 5 (length body) (omega arith) (omega arith) (omega arith))
+    (as_section end (codes "Host: ") host (codes "Content-Type: application/json") (codes "Content-Length: ") d (codes "Connection: close") body))
+    ∙ lengths (codes "POST ") path (codes " HTTP/1.1") end (codes "Host: ") host (codes "Content-Type: application/json") (codes "Content-Length: ") d (codes "Connection: close") body in
+    omega (arith, text, length-append (print_request (written_request path host (length body))) body, length-decimal-le 5 (length body) (omega arith) (omega arith) (omega arith))
 
 -- ---- the message
 
@@ -191,42 +191,42 @@ message_with_is head front body rest size =
 split : (n k : ℕ) → k ≤ n → n ≡ k + (n - k)
 split n k le = omega arith
 
-no_cookie : (path node : List ℕ) (n : ℕ) → first_of (values (codes "cookie") (of_request (written_request path node n)).fields) ≡ None
+no_cookie : (path host : List ℕ) (n : ℕ) → first_of (values (codes "cookie") (of_request (written_request path host n)).fields) ≡ None
 unfolding values
-no_cookie path node n = refl
+no_cookie path host n = refl
 
-module _ (path node body rest : List ℕ) (address : IsAddress path node) (small : length body ≤ BODY) where
+module _ (path host body rest : List ℕ) (address : IsAddress path host) (small : length body ≤ BODY) where
   abbrev head : RequestHead
-  head = written_request path node (length body)
+  head = written_request path host (length body)
 
   abbrev size : ℕ
   size = length (print_request head)
 
   fits : size ≤ HEAD_BYTES
-  fits = head_fits path node body address.short small
+  fits = head_fits path host body address.short small
 
-  text : request_text path node body ++ rest ≡ print_request head ++ (body ++ rest)
-  text = ap (λ t. t ++ rest) (regroup path node body) ∙ append_assoc (print_request head) body rest
+  text : request_text path host body ++ rest ≡ print_request head ++ (body ++ rest)
+  text = ap (λ t. t ++ rest) (regroup path host body) ∙ append_assoc (print_request head) body rest
 
-  reads : ReadsRequest (take HEAD_BYTES (request_text path node body ++ rest)) head (take (HEAD_BYTES - size) (body ++ rest))
+  reads : ReadsRequest (take HEAD_BYTES (request_text path host body ++ rest)) head (take (HEAD_BYTES - size) (body ++ rest))
   reads = (
-    is_head path node (length body) address small,
+    is_head path host (length body) address small,
     ap (take HEAD_BYTES) text
         ∙ ap (λ k. take k (print_request head ++ (body ++ rest))) (split HEAD_BYTES size fits)
         ∙ take-append-add (print_request head) (body ++ rest) (HEAD_BYTES - size),
   )
 
-  pub request_back : (r : Result Taken HttpFault) → IsReadAs Request (request_text path node body ++ rest) r
-      → r ≡ Ok (record { first = Asked (codes "POST") path; cookie = None; body = body; used = length (request_text path node body) })
+  pub request_back : (r : Result Parts HttpFault) → IsReadAs Request (request_text path host body ++ rest) r
+      → r ≡ Ok (record { first = Asked (codes "POST") path; cookie = None; body = body; used = length (request_text path host body) })
   request_back r a =
       let answer = whole ReadsRequest (λ h. h.fields) of_request request_unique ReadsRequest-append _ head _ reads (omega arith) a.0 (request_says _ a.0 a.1) in
-      let used : size + length body ≡ length (request_text path node body) = sym (ap length (regroup path node body) ∙ length-append (print_request head) body) in
-      a.2 ∙ ap (λ x. message_after x (request_text path node body ++ rest)) answer
+      let used : size + length body ≡ length (request_text path host body) = sym (ap length (regroup path host body) ∙ length-append (print_request head) body) in
+      a.2 ∙ ap (λ x. message_after x (request_text path host body ++ rest)) answer
       ∙ ap (λ bytes. message_behind (of_request head) bytes) text
-      ∙ ap (λ n. n >>= message_with (of_request head) (print_request head ++ (body ++ rest))) (length_written path node (length body) small)
+      ∙ ap (λ n. n >>= message_with (of_request head) (print_request head ++ (body ++ rest))) (length_written path host (length body) small)
       ∙ message_with_is (of_request head) (print_request head) body rest refl
       ∙ ap (λ u. Ok (record { first = Asked (codes "POST") path; cookie = first_of (values (codes "cookie") (of_request head).fields); body = body; used = u })) used
-      ∙ ap (λ c. Ok (record { first = Asked (codes "POST") path; cookie = c; body = body; used = length (request_text path node body) })) (no_cookie path node (length body))
+      ∙ ap (λ c. Ok (record { first = Asked (codes "POST") path; cookie = c; body = body; used = length (request_text path host body) })) (no_cookie path host (length body))
 
 -- ---- replies
 
@@ -316,7 +316,7 @@ module _ (code : ℕ) (body rest : List ℕ) (is : IsCode code) (small : length 
         ∙ take-append-add (print_response answer_head) (body ++ rest) (HEAD_BYTES - answer_size),
   )
 
-  pub reply_back : (r : Result Taken HttpFault) → IsReadAs Response (reply_text code body ++ rest) r
+  pub reply_back : (r : Result Parts HttpFault) → IsReadAs Response (reply_text code body ++ rest) r
       → r ≡ Ok (record { first = Answered code; cookie = None; body = body; used = length (reply_text code body) })
   reply_back r a =
       let answer = whole ReadsResponse (λ h. h.fields) of_response response_unique ReadsResponse-append _ answer_head _ answer_reads (omega arith) a.0 (response_says _ a.0 a.1) in

@@ -4,7 +4,7 @@ use Rattle.std.specs.List.{filter, list_all}
 use Rattle.std.specs.Char.{is_ascii_digit, to_ascii_lowercase}
 use Rattle.std.specs.Str.Parse.{digits_value}
 use Rattle.claim_types.specs.declared.limits.TheConstants.{BODY}
-use Rattle.topology_http.specs.declared.limits.TheConstants.{HEAD_BYTES}
+use Rattle.topology_http.specs.declared.limits.TheConstants.{HEAD_BYTES, LENGTH_DIGITS}
 use Rattle.topology_http.specs.declared.fault.HttpFault.{HttpFault}
 use Rattle.topology_http.specs.declared.fault.HttpFault.TheVariants.{Partial, BadHead, Chunked, NoLength, TooLarge}
 use Rattle.topology_http.specs.declared.message.Message.{Message}
@@ -32,7 +32,7 @@ first_of (v ∷ vs) = Some v
 -- a length is 1 to 19 digits
 unfoldable pub number_in : List ℕ → Option ℕ
 number_in value =
-    if nat_le 1 (length value) && nat_le (length value) 19 && list_all is_ascii_digit value
+    if nat_le 1 (length value) && nat_le (length value) LENGTH_DIGITS && list_all is_ascii_digit value
     then Some (digits_value 10 value) else None
 
 abbrev pub told : Option ℕ → Result (Option ℕ) HttpFault
@@ -69,19 +69,19 @@ length_of_body first fields =
 abbrev pub length_behind : Head → Result ℕ HttpFault
 length_behind head = length_of_body head.first head.fields
 
--- a message as values
-pub record Taken : Type 0 where
+-- a message in its parts: what it begins with, its cookie, its body, and its length in bytes
+pub record Parts : Type 0 where
   pub first : Start
   pub cookie : Option (List ℕ)
   pub body : List ℕ
   pub used : ℕ
 
--- what slices show
-abbrev pub taken : Message → Taken
-taken m = record { first = start_of m.first; cookie = option_map (λ c. c.now) m.cookie; body = m.body.now; used = m.used }
+-- the parts that slices show
+abbrev pub parts_of : Message → Parts
+parts_of m = record { first = start_of m.first; cookie = option_map (λ c. c.now) m.cookie; body = m.body.now; used = m.used }
 
 -- the message of a head and n bytes behind it
-unfoldable pub message_with : Head → List ℕ → ℕ → Result Taken HttpFault
+unfoldable pub message_with : Head → List ℕ → ℕ → Result Parts HttpFault
 message_with head bytes n =
     if nat_lt (length bytes) (head.size + n) then Err Partial
     else Ok (record {
@@ -91,19 +91,19 @@ message_with head bytes n =
       used = head.size + n;
     })
 
-abbrev pub message_behind : Head → List ℕ → Result Taken HttpFault
+abbrev pub message_behind : Head → List ℕ → Result Parts HttpFault
 message_behind head bytes = length_behind head >>= message_with head bytes
 
 -- the message, by what stands at its front
-abbrev pub message_after : HeadAnswer → List ℕ → Result Taken HttpFault
+abbrev pub message_after : HeadAnswer → List ℕ → Result Parts HttpFault
 message_after (Whole head) bytes = message_behind head bytes
 message_after Unfinished bytes = if nat_le (length bytes) HEAD_BYTES then Err Partial else Err BadHead
 message_after Refused bytes = Err BadHead
 
-abbrev pub shown : Result Message HttpFault → Result Taken HttpFault
-shown (Ok m) = Ok (taken m)
+abbrev pub shown : Result Message HttpFault → Result Parts HttpFault
+shown (Ok m) = Ok (parts_of m)
 shown (Err e) = Err e
 
 -- what a side's bytes may be read as: the message of an answer that its first bytes may be given, or why there is none
-abbrev pub IsReadAs : Side → List ℕ → Result Taken HttpFault → Type 0
+abbrev pub IsReadAs : Side → List ℕ → Result Parts HttpFault → Type 0
 IsReadAs side bytes r = (answer : HeadAnswer) × Answers side (take HEAD_BYTES bytes) answer × (r ≡ message_after answer bytes)

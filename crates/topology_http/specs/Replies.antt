@@ -19,7 +19,7 @@ use Rattle.message_json.specs.ReplyWriter.{reply_text as body_of}
 use Rattle.topology_http.specs.declared.fault.HttpFault.{HttpFault}
 use Rattle.topology_http.specs.declared.message.Side.TheVariants as side
 use Rattle.topology_http.specs.Heads.{Answered}
-use Rattle.topology_http.specs.Messages.{Taken, IsReadAs}
+use Rattle.topology_http.specs.Messages.{Parts, IsReadAs}
 use Rattle.topology_http.specs.Written.{reply_text}
 
 -- the codes: what was asked for was done or found, it is not there, it is refused, or another node has it
@@ -81,7 +81,7 @@ abbrev pub message_of : Reply → List ℕ
 message_of reply = reply_text (code_of reply) (body_of reply)
 
 -- what was read is this reply again: its code, and its body with nothing behind it
-pub record Returns (reply : Reply) (r : Result Taken HttpFault) : Type 0 where
+pub record Returns (reply : Reply) (r : Result Parts HttpFault) : Type 0 where
   pub message : r ≡ Ok (record { first = Answered (code_of reply); cookie = None; body = body_of reply; used = length (message_of reply) })
   pub same : reply_of (body_of reply) ≡ Ok reply
 
@@ -89,4 +89,4 @@ pub record Returns (reply : Reply) (r : Result Taken HttpFault) : Type 0 where
 abbrev pub ReadsBack : Reply → List ℕ → Type 0
 ReadsBack reply text =
     IsReply reply → length (body_of reply) ≤ BODY
-    → (rest : List ℕ) (r : Result Taken HttpFault) → IsReadAs side.Response (text ++ rest) r → Returns reply r
+    → (rest : List ℕ) (r : Result Parts HttpFault) → IsReadAs side.Response (text ++ rest) r → Returns reply r

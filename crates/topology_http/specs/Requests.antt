@@ -11,7 +11,7 @@ use Rattle.topology_http.specs.declared.ask.Ask.TheVariants as ask
 use Rattle.topology_http.specs.declared.fault.HttpFault.{HttpFault}
 use Rattle.topology_http.specs.declared.message.Side.TheVariants as side
 use Rattle.topology_http.specs.Heads.{Asked}
-use Rattle.topology_http.specs.Messages.{Taken, IsReadAs}
+use Rattle.topology_http.specs.Messages.{Parts, IsReadAs}
 use Rattle.topology_http.specs.Paths.{path_of, dispatch_of}
 use Rattle.topology_http.specs.Written.{request_text}
 
@@ -42,7 +42,7 @@ abbrev pub message_of : Request → List ℕ
 message_of request = request_text (path_of (ask_of request)) (host_of request) (body_of request)
 
 -- what was read is this request again: a POST to its path, which asks for it, with its body and nothing behind it
-pub record Returns (request : Request) (r : Result Taken HttpFault) : Type 0 where
+pub record Returns (request : Request) (r : Result Parts HttpFault) : Type 0 where
   pub message : r ≡ Ok (record {
     first = Asked (codes "POST") (path_of (ask_of request));
     cookie = None;
@@ -56,4 +56,4 @@ pub record Returns (request : Request) (r : Result Taken HttpFault) : Type 0 whe
 abbrev pub ReadsBack : Request → List ℕ → Type 0
 ReadsBack request text =
     IsRequest request → length (body_of request) ≤ BODY
-    → (rest : List ℕ) (r : Result Taken HttpFault) → IsReadAs side.Request (text ++ rest) r → Returns request r
+    → (rest : List ℕ) (r : Result Parts HttpFault) → IsReadAs side.Request (text ++ rest) r → Returns request r

@@ -3,10 +3,10 @@ use Rattle.std.specs.Prelude.{◌≡◌, ◌⊎◌, ◌++◌, ℕ, List, Result,
 use Rattle.topology_http.specs.declared.fault.HttpFault.{HttpFault}
 use Rattle.topology_http.specs.declared.fault.HttpFault.TheVariants.{Partial, BadHead, Chunked, NoLength, TooLarge, NoSuchPath, Memory}
 use Rattle.topology_http.specs.declared.message.Side.{Side}
-use Rattle.topology_http.specs.Messages.{Taken, IsReadAs}
+use Rattle.topology_http.specs.Messages.{Parts, IsReadAs}
 
 -- what bytes are read as, and what they are read as with more behind them
-abbrev pub Settles : Result Taken HttpFault → Result Taken HttpFault → Type 0
+abbrev pub Settles : Result Parts HttpFault → Result Parts HttpFault → Type 0
 Settles (Ok message) later = later ≡ Ok message
 Settles (Err Partial) later = ⊤
 Settles (Err BadHead) later = (later ≡ Err BadHead) ⊎ (later ≡ Err Partial)
@@ -19,15 +19,15 @@ Settles (Err Memory) later = later ≡ Err Memory
 -- more bytes change no more than that
 abbrev pub ReadingsSettle : Type 0
 ReadingsSettle =
-    (side : Side) (bytes more : List ℕ) (r later : Result Taken HttpFault) → IsReadAs side bytes r
+    (side : Side) (bytes more : List ℕ) (r later : Result Parts HttpFault) → IsReadAs side bytes r
     → IsReadAs side (bytes ++ more) later → Settles r later
 
 -- a front of a message is read as not whole, or as that message
-abbrev pub IsFrontOf : Taken → Result Taken HttpFault → Type 0
+abbrev pub IsFrontOf : Parts → Result Parts HttpFault → Type 0
 IsFrontOf message r = (r ≡ Err Partial) ⊎ (r ≡ Ok message)
 
 -- wherever the bytes of a message are cut
 abbrev pub FrontsWait : Type 0
 FrontsWait =
-    (side : Side) (bytes more : List ℕ) (r : Result Taken HttpFault) (message : Taken) → IsReadAs side bytes r
+    (side : Side) (bytes more : List ℕ) (r : Result Parts HttpFault) (message : Parts) → IsReadAs side bytes r
     → IsReadAs side (bytes ++ more) (Ok message) → IsFrontOf message r

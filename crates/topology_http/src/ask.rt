@@ -11,7 +11,9 @@ pub enum Ask {
     Range,
     Claims,
     Classify,
+    /// A page, which a cell serves.
     Page,
+    /// One line of a script, which a cell that runs alone serves.
     Line,
 }
 

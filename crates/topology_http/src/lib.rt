@@ -15,7 +15,9 @@
 //! Promised: [`read_message`] gives exactly the message, or the first fault, of what `httparse` may
 //! answer for the head; [`Gather::feed`] answers what [`read_message`] does for the bytes so far, however
 //! they were cut, up to its first refusal, which it repeats; [`Routes::dispatch`] knows exactly the nine
-//! paths. Bytes behind a message never change what is read ([`readings_settle`], [`fronts_wait`]).
+//! paths. Bytes behind a message never change what is read ([`readings_settle`]), any cut of it is gathered to
+//! the same message ([`any_cut`], [`wholes_are_told`]), and [`message_of`] and [`message_of_reply`] write
+//! exactly texts from which the same request or reply is read again.
 #![tactic(auto)]
 
 mod ask;
@@ -39,8 +41,11 @@ pub use ask::Ask;
 pub use fault::HttpFault;
 pub use faults::{message_of_body_fault, message_of_fault};
 pub use gather::{Gather, Progress};
-pub use laws::{codes_are, fronts_wait, readings_settle, replies_return, requests_return};
-pub use limits::{HEAD_BYTES, HEAD_FIELDS};
+pub use laws::{
+    any_cut, codes_are, fronts_wait, readings_settle, replies_return, requests_return,
+    wholes_are_told,
+};
+pub use limits::{HEAD_BYTES, HEAD_FIELDS, LENGTH_DIGITS};
 pub use message::{First, Message, Side, read_message};
 pub use replies::message_of_reply;
 pub use requests::message_of;

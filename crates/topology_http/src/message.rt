@@ -15,28 +15,33 @@ use cells_base::behind;
 use claim_types::BODY;
 use httparse::spans::{EMPTY_HEADER_SPAN, HeaderSpan};
 
-/// Which side's message is read.
+/// Whose message is read.
 #[derive(Clone, Copy, Debug, PartialEq, Eq)]
 pub enum Side {
+    /// That of whoever asks.
     Request,
+    /// That of whoever answers.
     Response,
 }
 
 /// What a message begins with.
 #[derive(Clone, Copy, Debug)]
 pub enum First<'a> {
+    /// A method, and the target that it is asked of, as they stand.
     Request { method: &'a [u8], target: &'a [u8] },
+    /// A code of three digits.
     Response { status: u16 },
 }
 
-/// A message at the front of bytes.
+/// A message at the front of bytes, lent from them.
 #[derive(Clone, Copy, Debug)]
 pub struct Message<'a> {
     pub first: First<'a>,
-    /// The value of the first Cookie field.
+    /// The value of the first Cookie field, without the spaces and tabs around it.
     pub cookie: Option<&'a [u8]>,
+    /// At most [`claim_types::BODY`] bytes.
     pub body: &'a [u8],
-    /// The message's length in bytes.
+    /// The message's length in bytes, head and body. What follows is no part of it.
     pub used: u64,
 }
 
@@ -143,7 +148,9 @@ fn message_behind<'a>(
     })
 }
 
-/// The message at the front of these bytes.
+/// The message at the front of these bytes, or the first reason why there is none, in the order of
+/// `specs/Messages`: the head is not whole or is none, the body comes in pieces of its own, its length is
+/// not told or too large, or bytes of it are missing. It takes no memory.
 pub fn read_message<'a>(bytes: &'a [u8], side: Side) -> Result<Message<'a>, HttpFault>
     ensures { spec.IsReadAs side bytes.now (spec.shown result) }
 {

@@ -1,10 +1,9 @@
 -- A message that comes in pieces is refused at none, and told as whole where it is.
-use Rattle.std.proofs.Common.{◌≡◌, ◌≢◌, ℕ, List, [], ◌∷◌, ◌++◌, sym, ap, ◌∙◌, refl, subst, ⊎_elim, inl, inr, Result, Ok, Err, Option, None, append_assoc}
+use Rattle.std.proofs.Common.{◌≡◌, ◌≢◌, ℕ, List, [], ◌∷◌, ◌++◌, sym, ap, ◌∙◌, refl, subst, ⊎_elim, inl, inr, Result, Ok, Err, None, append_assoc}
 use Rattle.std.specs.List.{All, concat}
 use Rattle.std.proofs.lemmas.List.{append-nil}
 use Rattle.std.proofs.lemmas.List.Elements.{All-nil, All-cons}
 use Rattle.topology_http.specs.declared.gather.Progress.{Progress}
-use Rattle.topology_http.specs.declared.gather.Progress.TheVariants.{Whole}
 use Rattle.topology_http.specs.declared.fault.HttpFault.{HttpFault}
 use Rattle.topology_http.specs.declared.fault.HttpFault.TheVariants.{Memory}
 use Rattle.topology_http.specs.declared.message.Side.{Side}

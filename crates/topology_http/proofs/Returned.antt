@@ -1,5 +1,5 @@
 -- The message of a request, or of a reply, is read as it again.
-use Rattle.std.proofs.Common.{◌≡◌, ℕ, ◌<◌, ◌≤◌, ◌+◌, true, List, ◌++◌, length, sym, ap, ◌∙◌, refl, arith, subst, Result, Ok, Err, codes, IsTrue, decimal, IfOk, Option, Some, None}
+use Rattle.std.proofs.Common.{◌≡◌, ℕ, ◌<◌, ◌≤◌, true, List, ◌++◌, length, ap, ◌∙◌, refl, arith, subst, Result, Ok, Err, codes, IsTrue, decimal, IfOk, Option, Some, None}
 use Rattle.std.specs.List.{list_all}
 use Rattle.std.specs.Str.{IsUtf8}
 use Rattle.std.proofs.lemmas.Fmt.{length-decimal-le}
@@ -7,7 +7,7 @@ use Rattle.std.proofs.lemmas.List.{length-append}
 use Rattle.std.proofs.lemmas.List.Elements.{All-append}
 use Rattle.std.proofs.lemmas.List.Sums.{AllPass-from_list_all}
 use Rattle.httparse.specs.Grammar.{AllPass, is_uri_byte, is_value_byte}
-use Rattle.claim_types.specs.declared.limits.TheConstants.{BODY, GREATEST_CELL}
+use Rattle.claim_types.specs.declared.limits.TheConstants.{GREATEST_CELL}
 use Rattle.claim_types.specs.declared.message.Request.{Request}
 use Rattle.claim_types.specs.declared.message.Request.TheVariants.{Begin, Commit, Rollback, List as ListRequest, Range, Claims, Classify, Page}
 use Rattle.claim_types.specs.MessageBounds.{IsRequest, IsReply}
@@ -29,10 +29,9 @@ use Rattle.message_json.specs.RequestReader.{request_of}
 use Rattle.message_json.specs.RequestWriter.{request_text as body_of}
 use Rattle.topology_http.specs.declared.ask.Ask.{Ask}
 use Rattle.topology_http.specs.declared.ask.Ask.TheVariants as ask
-use Rattle.topology_http.specs.declared.fault.HttpFault.{HttpFault}
 use Rattle.topology_http.specs.declared.message.Side.TheVariants as side
 use Rattle.topology_http.specs.Fits.{IsAddress, IsCode}
-use Rattle.topology_http.specs.Messages.{Parts, IsReadAs}
+use Rattle.topology_http.specs.Messages.{IsReadAs}
 use Rattle.topology_http.specs.Paths.{path_of, dispatched, dispatch_of}
 use Rattle.topology_http.specs.Replies.{begun_code, committed_code, rolled_back_code, ranged_code, class_code, found_code, code_of, ReadsBack as ReplyReadsBack}
 use Rattle.topology_http.specs.Requests.{ask_of, host_of, ReadsBack as RequestReadsBack}

@@ -1,14 +1,14 @@
 -- A router of literal routes finds a path exactly where it is one of them.
-use Rattle.std.proofs.Common.{◌≡◌, ℕ, zero, suc, ◌-◌, ◌<◌, ◌≤◌, Bool, true, false, cond, ◌&&◌, List, [], ◌∷◌, length, sym, ap, ◌∙◌, refl, arith, rules, Option, Some, None, option_map, map, subst, Result, Ok, Err, OnOk, codes, if◌then◌else◌, eqb, nat_eq, nat_lt}
+use Rattle.std.proofs.Common.{◌≡◌, ℕ, zero, suc, ◌-◌, ◌≤◌, Bool, true, false, cond, ◌&&◌, List, [], ◌∷◌, length, sym, ap, ◌∙◌, refl, arith, rules, Option, Some, None, option_map, map, subst, Result, Ok, Err, OnOk, codes, if◌then◌else◌, eqb, nat_lt}
 use Rattle.std.specs.List.{list_all}
 use Rattle.std.specs.Str.{IsAscii, IsUtf8, bytes_eq}
 use Rattle.std.proofs.lemmas.Str.{IsUtf8-from_ascii}
 use Rattle.std.proofs.lemmas.Slice.Eq.{bytes_eq-Decides}
 use Rattle.topology_http.specs.declared.fault.HttpFault.{HttpFault}
 use Rattle.topology_http.specs.declared.fault.HttpFault.TheVariants.{NoSuchPath}
-use Rattle.std.proofs.lemmas.Bool.{ltb-true, ltb-false, eqb-true, ne_eqb}
+use Rattle.std.proofs.lemmas.Bool.{ltb-true, ne_eqb}
 use Rattle.matchit.specs.Rows.{RowsOf}
-use Rattle.matchit.specs.Seek.{step, own, or_else, seek, first, param_step, same_text, has_slash, segment}
+use Rattle.matchit.specs.Seek.{step, own, or_else, seek, first, param_step, same_text, has_slash}
 use Rattle.matchit.specs.Order.{lookup, placed}
 use Rattle.matchit.specs.Route.{Scan, parse_route}
 use Rattle.matchit.specs.Router.{RouteOf, InsertsRead}

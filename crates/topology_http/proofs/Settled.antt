@@ -1,6 +1,6 @@
 -- What was read of a front stays.
-use Rattle.std.proofs.Common.{◌≡◌, ◌⊎◌, ℕ, ◌<◌, ◌≤◌, ◌+◌, ◌-◌, Bool, true, false, List, [], ◌∷◌, ◌++◌, length, take, drop, sym, ap, ◌∙◌, refl, arith, rules, subst, ⊎_elim, inl, inr, if◌then◌else◌, Result, Ok, Err, nat_lt, nat_le, codes}
-use Rattle.std.specs.Prelude.{⊤, slice_range}
+use Rattle.std.proofs.Common.{◌≡◌, ℕ, ◌<◌, ◌≤◌, ◌+◌, ◌-◌, Bool, true, false, List, [], ◌++◌, length, take, drop, sym, ap, ◌∙◌, refl, arith, subst, ⊎_elim, inl, inr, if◌then◌else◌, Result, Ok, Err, nat_lt, nat_le, codes}
+use Rattle.std.specs.Prelude.{slice_range}
 use Rattle.std.proofs.lemmas.List.{take-append-le, take_all, length-append, append-nil, drop-append-le, length-drop}
 use Rattle.std.proofs.Math.Seq.{take-append-add}
 use Rattle.std.proofs.lemmas.Bool.{ltb-false, le-ltb, leb-false, cases_lt}

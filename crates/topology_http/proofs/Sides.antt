@@ -1,12 +1,12 @@
 -- What was read of either side's bytes stays.
-use Rattle.std.proofs.Common.{◌≡◌, ℕ, List, ◌++◌, take, sym, subst, refl, inl, inr, ⊎_elim, rules, Result, Ok, Err}
-use Rattle.httparse.specs.Grammar.{RequestHead, ReadsRequest, ResponseHead, ReadsResponse}
+use Rattle.std.proofs.Common.{◌≡◌, ℕ, List, ◌++◌, sym, refl, inl, inr, ⊎_elim, rules, Result, Ok, Err}
+use Rattle.httparse.specs.Grammar.{ReadsRequest, ReadsResponse}
 use Rattle.httparse.proofs.GrammarLemmas.{request_unique, ReadsRequest-append, response_unique, ReadsResponse-append}
 use Rattle.topology_http.specs.declared.fault.HttpFault.{HttpFault}
 use Rattle.topology_http.specs.declared.fault.HttpFault.TheVariants.{Partial, BadHead, Chunked, NoLength, TooLarge, NoSuchPath, Memory}
 use Rattle.topology_http.specs.declared.message.Side.{Side}
 use Rattle.topology_http.specs.declared.message.Side.TheVariants.{Request, Response}
-use Rattle.topology_http.specs.Heads.{HeadAnswer, Whole, Unfinished, Refused, AnswersRequest, AnswersResponse, Answers, of_request, of_response}
+use Rattle.topology_http.specs.Heads.{HeadAnswer, Whole, Unfinished, Refused, AnswersRequest, AnswersResponse, of_request, of_response}
 use Rattle.topology_http.specs.Messages.{Parts, IsReadAs}
 use Rattle.topology_http.specs.Settles.{Settles, IsFrontOf}
 use Rattle.topology_http.proofs.Settled.{Says, settles}

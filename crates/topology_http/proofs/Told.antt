@@ -1,5 +1,5 @@
 -- The length that one field tells, and that two do not.
-use Rattle.std.proofs.Common.{◌≡◌, ℕ, ◌+◌, ◌<◌, List, [], ◌∷◌, length, drop, map, get_or, sym, ap, ◌∙◌, refl, Option, Some, None, Err}
+use Rattle.std.proofs.Common.{◌≡◌, ℕ, ◌+◌, List, [], ◌∷◌, drop, map, get_or, sym, ap, ◌∙◌, refl, Some, Err}
 use Rattle.std.proofs.lemmas.List.{drop-map, get_or-map, length-map}
 use Rattle.httparse.specs.declared.spans.HeaderSpan.{HeaderSpan}
 use Rattle.httparse.specs.Spans.{header_bytes}

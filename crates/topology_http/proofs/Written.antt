@@ -1,31 +1,30 @@
 -- What was written is read again.
-use Rattle.std.proofs.Common.{◌≡◌, ◌⊎◌, ℕ, ◌<◌, ◌≤◌, ◌+◌, ◌-◌, ◌^◌, Bool, true, false, ◌&&◌, ◌==◌, nat_le, List, [], ◌∷◌, ◌++◌, length, take, drop, reverse, sym, ap, ◌∙◌, refl, arith, rules, subst, ⊎_elim, Result, Ok, Err, Option, Some, None, append_assoc, codes, IsTrue, decimal, map, IfOk}
-use Rattle.std.specs.Prelude.{slice_range, IsUtf8, unwrap_or}
+use Rattle.std.proofs.Common.{◌≡◌, ℕ, ◌<◌, ◌≤◌, ◌+◌, ◌-◌, true, false, ◌&&◌, nat_le, List, [], ◌∷◌, ◌++◌, length, take, drop, reverse, sym, ap, ◌∙◌, refl, arith, ⊎_elim, Result, Ok, Err, Some, None, append_assoc, codes, IsTrue, decimal, IfOk}
+use Rattle.std.specs.Prelude.{slice_range}
 use Rattle.std.specs.List.{list_all, All}
 use Rattle.std.specs.Char.{is_ascii_digit, digit_value}
 use Rattle.std.specs.Str.Parse.{digits_value, AllDigits}
-use Rattle.std.proofs.lemmas.Bool.{ltb-false, le-ltb, lt-ltb, le-leb, leb-true, cases_lt, and_from}
+use Rattle.std.proofs.lemmas.Bool.{le-ltb, lt-ltb, le-leb, leb-true, cases_lt, and_from}
 use Rattle.std.proofs.lemmas.Int.Digits.{digits_value-lt}
 use Rattle.std.proofs.Math.Nat.{pow-le-pow_right}
 use Rattle.topology_http.proofs.Router.{and_left, and_right}
-use Rattle.std.proofs.lemmas.Bool.Decides.{nat_tests, Decides-eqb}
+use Rattle.std.proofs.lemmas.Bool.Decides.{nat_tests}
 use Rattle.std.proofs.lemmas.Fmt.{length-decimal-le, decimal_is_IsNumeral}
-use Rattle.std.proofs.lemmas.List.{length-append, take-append-le, append-nil}
+use Rattle.std.proofs.lemmas.List.{length-append, append-nil}
 use Rattle.std.proofs.lemmas.List.Elements.{All-cons, All-nil, All-head, All-weaker}
-use Rattle.std.proofs.lemmas.List.Sums.{AllPass-from_list_all, list_all-from_AllPass}
+use Rattle.std.proofs.lemmas.List.Sums.{AllPass-from_list_all}
 use Rattle.std.proofs.Math.Seq.{take-append-add, drop-append_seam, take-append_seam}
 use Rattle.claim_types.specs.declared.limits.TheConstants.{BODY}
-use Rattle.httparse.specs.Grammar.{Field, IsField, RequestHead, IsRequestHead, ReadsRequest, print_request, ResponseHead, IsResponseHead, ReadsResponse, print_response, crlf, skip_ows, is_ows, is_value_byte, trim_ows, AllPass, is_token_byte, IsToken}
+use Rattle.httparse.specs.Grammar.{IsField, RequestHead, IsRequestHead, ReadsRequest, print_request, ResponseHead, IsResponseHead, ReadsResponse, print_response, skip_ows, is_ows, is_value_byte, trim_ows, AllPass, is_token_byte, IsToken}
 use Rattle.httparse.proofs.TrimLemmas.{trim_ows_space, AllPass-reverse}
 use Rattle.httparse.proofs.GrammarLemmas.{print_request-append, request_unique, ReadsRequest-append, print_response-append, response_unique, ReadsResponse-append}
-use Rattle.topology_http.specs.declared.limits.TheConstants.{HEAD_BYTES, HEAD_FIELDS}
+use Rattle.topology_http.specs.declared.limits.TheConstants.{HEAD_BYTES}
 use Rattle.topology_http.specs.declared.fault.HttpFault.{HttpFault}
 use Rattle.topology_http.specs.declared.message.Side.TheVariants.{Request, Response}
-use Rattle.topology_http.specs.Heads.{Head, HeadAnswer, Whole, Asked, Answered, of_request, of_response}
+use Rattle.topology_http.specs.Heads.{Head, Asked, Answered, of_request, of_response}
 use Rattle.topology_http.specs.Messages.{Parts, values, first_of, number_in, length_behind, length_of_body, message_with, message_behind, message_after, IsReadAs, ◌>>=◌}
 use Rattle.topology_http.specs.Written.{phrase_of, reply_head_text, reply_text, written_reply, request_text, request_head_text, written_request, head_fields, field_of, content_type, content_length, connection}
 use Rattle.topology_http.specs.Fits.{IsAddress, IsCode, CodesAre}
-use Rattle.http.specs.StatusCode.{reason_phrase}
 use Rattle.topology_http.proofs.Settled.{whole}
 use Rattle.topology_http.proofs.Sides.{request_says, response_says}
 

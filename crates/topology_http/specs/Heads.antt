@@ -1,6 +1,5 @@
 -- What stands at the front of a message's bytes, as `httparse` answers it: a whole head, one that may still come, or none.
 use Rattle.std.specs.Prelude.{◌≡◌, ℕ, ◌≤◌, List, length, map, take}
-use denote.Ref.{Bor}
 use Rattle.httparse.specs.declared.spans.HeaderSpan.{HeaderSpan}
 use Rattle.httparse.specs.Grammar.{RequestHead, ReadsRequest, print_request, HasNoRequest, MayBecomeRequest, ResponseHead, ReadsResponse, print_response, HasNoResponse, MayBecomeResponse, status_code}
 use Rattle.httparse.specs.Spans.{name_and_value, header_bytes, RequestOverflows, ResponseOverflows}

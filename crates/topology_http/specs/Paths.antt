@@ -1,5 +1,5 @@
 -- The paths that are served, and what each asks.
-use Rattle.std.specs.Prelude.{◌≡◌, ℕ, Bool, if◌then◌else◌, bytes_eq, codes, List, [], ◌∷◌, Option, Some, None, option_map, Result, Ok, Err}
+use Rattle.std.specs.Prelude.{◌≡◌, ℕ, if◌then◌else◌, bytes_eq, codes, List, [], ◌∷◌, Option, Some, None, option_map, Result, Ok, Err}
 use Rattle.topology_http.specs.declared.ask.Ask.{Ask}
 use Rattle.topology_http.specs.declared.ask.Ask.TheVariants as ask
 use Rattle.topology_http.specs.declared.fault.HttpFault.{HttpFault}

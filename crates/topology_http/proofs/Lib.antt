@@ -1,0 +1,11 @@
+mod Named
+mod Digits
+mod Front
+mod Told
+mod Settled
+mod Sides
+mod Pieces
+mod Written
+mod Router
+mod FaultText
+mod Returned

@@ -1,0 +1,12 @@
+pub mod Heads
+pub mod Messages
+pub mod Fields
+pub mod Within
+pub mod Settles
+pub mod Written
+pub mod Fits
+pub mod Requests
+pub mod Replies
+pub mod Faults
+pub mod Paths
+pub mod Gathers

@@ -1,5 +1,6 @@
-ghost use Rattle.std.specs.Prelude.{◌≡◌, ◌+◌, ◌-◌, ◌<◌, ◌≤◌, ◌==◌, [], true, ℕ, Some, length, take, drop, find, slice_get, IfOk, OnOk, vec_len, vec_capacity};
-ghost use Rattle.cells_edge.specs.Carrying.{kind_at, queue_after, is_fault, IsPutOn, IsTakeOn};
+ghost use Rattle.std.specs.Prelude.{◌≡◌, ◌≢◌, ◌+◌, ◌-◌, ◌<◌, ◌≤◌, ◌==◌, [], true, false, IsTrue, ℕ, Some, length, take, drop, find, insert, slice_get, IfOk, OnOk, vec_len, vec_capacity};
+ghost use Rattle.cells_base.specs.Causes.{Rose};
+ghost use Rattle.cells_edge.specs.Carrying.{kind_at, queue_after, is_fault, counted_if, IsPutOn, IsTakeOn};
 ghost use Rattle.cells_edge.specs.Places.{AreWithin, packets_at};
 ghost use Rattle.cells_edge.specs.Wire.{IsFront, IsPut, IsStill, IsTaken, HasWireCause};
 ghost use Rattle.cells_edge.specs.declared.memory_wire.Disturbance.{Disturbance};
@@ -11,7 +12,7 @@ use std::alloc::Global;
 use std::marker::Model;
 
 /// What may befall a call of a wire.
-#[derive(Clone, Copy, Debug, PartialEq, Eq)]
+#[derive(Clone, Copy, Debug)]
 pub enum DisturbanceKind {
     /// A packet that is put does not go on its way.
     Lose,
@@ -46,6 +47,26 @@ fn kind_of(disturbances: &[Disturbance], call: u64) -> Option<DisturbanceKind>
     }
 }
 
+// Whether a call fails.
+fn is_failure(kind: Option<DisturbanceKind>) -> bool
+    ensures fails { IsTrue result → kind ≡ Some DisturbanceKind.Fail }
+    ensures passes { result ≡ false → kind ≢ Some DisturbanceKind.Fail }
+{
+    matches!(kind, Some(DisturbanceKind::Fail))
+}
+
+// The count of faults after a call that was one or not.
+fn faults_after(faults: u64, fault: bool) -> u64
+    ensures count { result ≡ counted_if fault faults }
+    ensures later { faults ≤ result }
+    ensures rose { IsTrue fault → Rose faults result }
+{
+    if fault {
+        return faults.saturating_add(1);
+    }
+    faults
+}
+
 // Room for one packet more, and for two places more.
 fn make_room(packets: &mut Vec<Packet>, places: &mut Vec<usize>) -> Result<(), NoMemory>
     ensures packets { packets.new.items ≡ packets.old.items }
@@ -57,6 +78,16 @@ fn make_room(packets: &mut Vec<Packet>, places: &mut Vec<usize>) -> Result<(), N
     packets.reserve(1)?;
     places.reserve(2)?;
     Ok(())
+}
+
+// An insertion that finds room.
+fn insert_reserved(places: &mut Vec<usize>, at: usize, place: usize)
+    requires within { at ≤ vec_len places.old }
+    requires room { vec_len places.old < vec_capacity places.old }
+    ensures items { places.new.items ≡ insert places.old.items at place }
+    ensures len { vec_len places.new ≡ vec_len places.old + 1 }
+{
+    let _ = places.insert(at, place);
 }
 
 // Adds a place to those behind the first `taken`, as a put has it that this befell, and answers whether that
@@ -106,7 +137,7 @@ fn enqueue_before_last(places: &mut Vec<usize>, taken: usize, place: usize) -> b
         places.push_reserved(place);
         return false;
     }
-    let _ = places.insert(len - 1, place);
+    insert_reserved(places, len - 1, place);
     true
 }
 
@@ -146,7 +177,8 @@ pub struct MemoryWire {
 }
 
 impl Model for MemoryWire {
-    ghost use Rattle.std.specs.Prelude.{◌≤◌, take, drop, vec_len};
+    ghost use Rattle.std.specs.Prelude.{◌≤◌, length, take, drop};
+    ghost use Rattle.cells_base.specs.Causes.{Rose};
     ghost use Rattle.cells_edge.specs.Carrying.{Carrying};
     ghost use Rattle.cells_edge.specs.Places.{AreWithin, packets_at};
 
@@ -161,7 +193,7 @@ impl Model for MemoryWire {
       faults = w.faults;
     } };
 
-    ghost invariant = { λ w. (w.taken ≤ vec_len w.places) × AreWithin (vec_len w.sent) w.places.items };
+    ghost invariant = { λ w. (w.taken ≤ length w.places.items) × AreWithin (length w.sent.items) w.places.items };
 }
 
 impl MemoryWire {
@@ -195,19 +227,19 @@ impl MemoryWire {
 
     // A put, by what is set to befall it.
     fn put_on(&mut self, alloc: Global, leg: Leg, packet: &[u8]) -> Result<(), WireError>
-        ensures { IsPutOn result (record { leg = leg; bytes = packet.now }) self.old self.new }
+        ensures put { IsPutOn result (record { leg = leg; bytes = packet.now }) self.old self.new }
+        ensures cause { HasWireCause self.old.faults self.new.faults result }
     {
         let bytes = Text::from_slice(alloc, packet)?;
         make_room(&mut self.sent, &mut self.places)?;
         let call = self.calls.saturating_add(1);
         let kind = kind_of(&self.disturbances, call);
         let place = self.sent.len();
-        if enqueue(&mut self.places, self.taken, kind, place) {
-            self.faults = self.faults.saturating_add(1);
-        }
+        let fault = enqueue(&mut self.places, self.taken, kind, place);
         self.sent.push_reserved(Packet { leg, bytes });
         self.calls = call;
-        if kind == Some(DisturbanceKind::Fail) {
+        self.faults = faults_after(self.faults, fault);
+        if is_failure(kind) {
             return Err(WireError::Failed);
         }
         Ok(())
@@ -215,19 +247,18 @@ impl MemoryWire {
 
     // A take, by what is set to befall it.
     fn take_on(&mut self, alloc: Global) -> Result<Option<Packet>, WireError>
-        ensures { IsTakeOn result self.old self.new }
+        ensures take { IsTakeOn result self.old self.new }
+        ensures cause { HasWireCause self.old.faults self.new.faults result }
     {
         let call = self.calls.saturating_add(1);
-        if kind_of(&self.disturbances, call) == Some(DisturbanceKind::Fail) {
+        if is_failure(kind_of(&self.disturbances, call)) {
             self.calls = call;
-            self.faults = self.faults.saturating_add(1);
+            self.faults = faults_after(self.faults, true);
             return Err(WireError::Failed);
         }
         let given = copy_first(alloc, &self.sent, behind(&self.places, self.taken))?;
         self.calls = call;
-        if given.is_some() {
-            self.taken += 1;
-        }
+        self.taken = (self.taken + 1).min(self.places.len());
         Ok(given)
     }
 }

@@ -352,7 +352,8 @@ impl LineReader {
         ends: LineEnd,
         source: &mut S,
     ) -> Result<bool, LineFault>
-        ensures next { IsTrue S.tells → IfOk result (GoesOn (lines_by ends) S.Source self.old source.old self.new source.new) }
+        ensures next { IsTrue S.tells →
+            IfOk result (GoesOn (lines_by ends) S.Source self.old source.old self.new source.new) }
         ensures end { IsTrue S.tells → IfOk result (EndsText (lines_by ends) S.Source self.old source.old source.new) }
         ensures counted { IfOk result (λ some. self.new.given ≡ (if some then self.old.given + 1 else self.old.given)) }
         ensures short { IfOk result (λ some. IsTrue some → MayGive self.old self.new.line) }

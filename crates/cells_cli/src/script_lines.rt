@@ -11,11 +11,13 @@ impl LineReader {
     /// Goes on to the next line of a script, or answers false at the end of the text. LF drops a CR in
     /// front of it, which does not count towards the limit. A CR that no LF follows is a byte as any other.
     pub fn next_script_line<S: Source>(&mut self, source: &mut S) -> Result<bool, LineFault>
-        ensures next { IsTrue S.tells → IfOk result (GoesOn script_lines_of S.Source self.old source.old self.new source.new) }
+        ensures next { IsTrue S.tells →
+            IfOk result (GoesOn script_lines_of S.Source self.old source.old self.new source.new) }
         ensures end { IsTrue S.tells → IfOk result (EndsText script_lines_of S.Source self.old source.old source.new) }
         ensures counted { IfOk result (λ some. self.new.given ≡ (if some then self.old.given + 1 else self.old.given)) }
         ensures short { IfOk result (λ some. IsTrue some → MayGive self.old self.new.line) }
-        ensures long { (line : ℕ) → IsErrOf result (LineFault.TooLong line) → IsLong LineEnd.ReturnAndFeed self.old self.new line }
+        ensures long { (line : ℕ) →
+            IsErrOf result (LineFault.TooLong line) → IsLong LineEnd.ReturnAndFeed self.old self.new line }
         ensures many { IsErrOf result LineFault.TooMany → (self.old.given ≡ LINES) × (self.new.pending ≢ []) }
         ensures read { IsErrOf result LineFault.Read → Rose (S.faults source.old) (S.faults source.new) }
         ensures later { S.faults source.old ≤ S.faults source.new }

@@ -8,9 +8,13 @@ mod limits;
 mod line;
 mod nodes;
 mod numbers;
+mod parts;
 mod read;
+mod telling;
+mod word;
 mod words;
 
 pub use answer::Answer;
 pub use limits::{GREATEST_COUNT, LINE_BYTES};
 pub use line::{Line, Span};
+pub use telling::{note_text, transition_text};

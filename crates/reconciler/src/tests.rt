@@ -6,8 +6,8 @@ ghost use Rattle.reconciler.specs.Agent.{IsReady};
 use crate::{CellAgent, Outcome};
 use cell_store::CellStore;
 use claim_types::{
-    ATTEMPTS_AND_ROWS, BegunResult, Change, CommittedResult, Denial, GREATEST_ATTEMPT, Kind, LeaseId, LeaseIds,
-    LeasePage, RangedResult, Reply, Request, RolledBackResult, Rule, Text,
+    ATTEMPTS_AND_ROWS, BegunResult, Change, CommittedResult, Denial, GREATEST_ATTEMPT, Kind,
+    LeaseId, LeaseIds, LeasePage, RangedResult, Reply, Request, RolledBackResult, Rule, Text,
 };
 use disk_journal::{Disk, MemoryDisk, make};
 use std::alloc::Global;

@@ -27,7 +27,7 @@ pub fn one_cell(alloc: Global) -> Result<Registry, Fault>
 }
 
 /// The name of a route.
-pub fn route(alloc: Global, n: u64) -> Result<String, AllocError> {
+pub(crate) fn route(alloc: Global, n: u64) -> Result<String, AllocError> {
     format!(in alloc; "r{n:06}")
 }
 

@@ -6,8 +6,8 @@ ghost use Rattle.reconciler.specs.Agent.{IsReady};
 use crate::{CellAgent, Outcome};
 use cell_store::CellStore;
 use claim_types::{
-    ATTEMPTS_AND_ROWS, BegunResult, Change, CommittedResult, Denial, GREATEST_ATTEMPT, Kind,
-    LeaseId, LeaseIds, LeasePage, RangedResult, Reply, Request, RolledBackResult, Rule, Text,
+    BegunResult, Change, CommittedResult, Denial, GREATEST_ATTEMPT, Kind, LeaseId, LeaseIds,
+    LeasePage, RangedResult, Reply, Request, RolledBackResult, Text,
 };
 use disk_journal::{Disk, MemoryDisk, make};
 use std::alloc::Global;
@@ -271,57 +271,4 @@ fn an_idle_agent_passes_over_replies(rt: HostRuntime) -> Result<(), Fail> {
     };
     assert!(rt; passes(alloc, &Reply::Leases { cell: 1, page })?);
     Ok(())
-}
-
-// Asks for so many changes, none of which is answered.
-fn ask_many<D: Disk>(
-    rt: &impl Abort,
-    alloc: Global,
-    disk: &D,
-    agent: &mut CellAgent,
-    number: u64,
-) -> Result<(), Fail>
-    requires { IsReady D.Disk disk.now agent.old }
-    ensures { OnOk result (IsReady D.Disk disk.now agent.new) }
-{
-    for _ in 0..number {
-        let _ = ask(rt, alloc, disk, agent, b"acme", 0)?;
-    }
-    Ok(())
-}
-
-// Why a change is refused.
-fn refusal<D: Disk>(
-    rt: &impl Abort,
-    alloc: Global,
-    disk: &D,
-    agent: &mut CellAgent,
-) -> Result<Option<Rule>, Fail>
-    requires { IsReady D.Disk disk.now agent.old }
-{
-    let _ = disk;
-    assert!(rt; agent.drawn() < GREATEST_ATTEMPT);
-    let change = Change::Create {
-        kind: Kind::Organization,
-        parent: 0,
-        name: Text::from_slice(alloc, b"acme")?,
-    };
-    Ok(agent.ask_change(alloc, change, 0).err())
-}
-
-// One attempt more than may wait is refused.
-fn fills<D: Disk>(rt: &impl Abort, alloc: Global, disk: &mut D) -> Result<(), Fail> {
-    let mut agent = open(alloc, disk)?;
-    ask_many(rt, alloc, disk, &mut agent, ATTEMPTS_AND_ROWS)?;
-    let rule = refusal(rt, alloc, disk, &mut agent)?;
-    assert!(rt; matches!(rule, Some(Rule::TooManyRows { n: 4_096 })));
-    assert!(rt; agent.pending() == 4_096 && agent.drawn() == 4_096);
-    Ok(())
-}
-
-#[test]
-fn only_so_many_attempts_wait(rt: HostRuntime) -> Result<(), Fail> {
-    let alloc = rt.alloc();
-    let mut disk = MemoryDisk::new(alloc, &[1], 4_096, Vec::new(alloc))?;
-    fills(&rt, alloc, &mut disk)
 }

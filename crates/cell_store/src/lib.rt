@@ -34,7 +34,7 @@ mod state;
 mod store;
 
 pub use fault::{CellOpenFault, RecordFault, StoreFault};
-pub use store::CellStore;
+pub use store::{CellStore, copy_of_change};
 
 #[cfg(test)]
 mod tests;

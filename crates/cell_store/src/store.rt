@@ -47,7 +47,8 @@ fn epoch_after(epoch: u32) -> Option<u32>
     Some(epoch + 1)
 }
 
-fn copy_of(alloc: Global, change: &Change) -> Result<Change, NoMemory>
+/// The same change again.
+pub fn copy_of_change(alloc: Global, change: &Change) -> Result<Change, NoMemory>
     ensures { IfOk result (λ copied. copied ≡ change.now) }
 {
     Ok(match change {
@@ -75,7 +76,7 @@ fn recorded_body(
     ensures body { IfOk result (λ body. body ≡ cell_entry_bytes (Recorded lease change.now ops.now)) }
     ensures length { IfOk result IsBody }
 {
-    let change = copy_of(alloc, change)?;
+    let change = copy_of_change(alloc, change)?;
     let ops = ops.copy(alloc)?;
     write_cell(alloc, &CellEntry::Recorded { lease, change, ops })
 }

@@ -24,6 +24,7 @@ mod pieces;
 pub mod real;
 mod sink;
 mod source;
+mod wire;
 #[cfg(test)]
 mod tests;
 
@@ -31,3 +32,4 @@ pub use memory::{BytesSink, BytesSource};
 pub use pieces::{read_behind, read_front, write_all};
 pub use sink::{Sink, SinkFailed};
 pub use source::{Source, SourceFailed};
+pub use wire::{Leg, Packet, Wire, WireError};

@@ -2,6 +2,7 @@
 ghost use Rattle.std.specs.Prelude.{◌≡◌, ◌<◌, ◌&&◌, nat_eq, [], ◌∷◌, flat_map, drop, IsTrue, false, is_some, Some};
 ghost use Rattle.std.specs.Prelude.{IfOk, OnOk, OnErr, IsErrOf, MatchOption};
 ghost use Rattle.std.specs.List.{slice_get};
+ghost use Rattle.std.specs.Option.{option_copied};
 ghost use Rattle.std.specs.FinMap as map;
 ghost use Rattle.claim_types.specs.Leases.{IsLease};
 ghost use Rattle.claim_types.specs.MessageBounds.{IsReply};
@@ -22,7 +23,7 @@ ghost use Rattle.reconciler.specs.Kept.{kept_with};
 ghost use Rattle.reconciler.specs.declared.outcome.AgentFault.TheVariants.{Failed, Memory};
 
 use crate::attempts::Attempts;
-use crate::outcome::{AgentFault, Outcome, Requests, copy_of, nothing};
+use crate::outcome::{AgentFault, Outcome, Requests, copy_of_denial, nothing};
 use cell_store::{CellStore, RecordFault};
 use claim_types::{
     ATTEMPTS_AND_ROWS, Attempt, BegunResult, Change, CommittedResult, Copied, Denial, Ended, Items,
@@ -106,6 +107,13 @@ impl CellAgent {
         ensures { result ≡ is_some (map.get (kept_by self.now).pending lease) }
     {
         self.pending.has(lease)
+    }
+
+    /// The attempt of a lease, if it waits.
+    pub fn attempt(&self, lease: LeaseId) -> Option<&Attempt>
+        ensures { option_copied result ≡ map.get (kept_by self.now).pending lease }
+    {
+        self.pending.get(lease)
     }
 
     // The operations of a change on the present records, or the first rule of records that it breaks.
@@ -308,7 +316,7 @@ impl CellAgent {
         if !self.pending.has(lease) {
             return Ok(nothing(alloc));
         }
-        let denial = copy_of(alloc, denial)?;
+        let denial = copy_of_denial(alloc, denial)?;
         self.pending.remove(lease);
         Ok(Outcome {
             recorded: None,

@@ -40,4 +40,4 @@ mod tests;
 
 pub use agent::CellAgent;
 pub use claim_types::Ended;
-pub use outcome::{AgentFault, Outcome, Requests};
+pub use outcome::{AgentFault, Outcome, Requests, copy_of_denial};

@@ -80,7 +80,7 @@ pub fn nothing(alloc: Global) -> Outcome
 }
 
 /// The same denial again.
-pub fn copy_of(alloc: Global, denial: &Denial) -> Result<Denial, NoMemory>
+pub fn copy_of_denial(alloc: Global, denial: &Denial) -> Result<Denial, NoMemory>
     ensures { IfOk result (λ copied. copied ≡ denial.now) }
 {
     Ok(match denial {

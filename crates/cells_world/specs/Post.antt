@@ -1,0 +1,45 @@
+-- The packets that were sent.
+use Rattle.std.specs.Prelude.{◌≡◌, ◌≢◌, ℕ, ◌+◌, nat_eq, if◌then◌else◌, IsTrue, List, [], ◌∷◌, ◌++◌, length, map as list_map, Some}
+use Rattle.std.specs.List.{slice_get}
+use Rattle.cells_edge.specs.declared.wire.Packet.{Packet as WirePacket}
+use Rattle.cells_edge.specs.declared.wire.Wire.{Ghosts}
+use Rattle.claim_laws.specs.World.{Packet}
+use Rattle.claim_laws.specs.Bounded.{IsMessage}
+use Rattle.cells_world.specs.declared.post.Post.{Post}
+use Rattle.cells_world.specs.declared.post.Sent.{Sent}
+use Rattle.cells_world.specs.Packets.{message_of, spelled, let_through}
+
+abbrev pub packet_of : Sent → Packet
+packet_of s = record { message = message_of s.message; answers = s.leg.answers }
+
+abbrev pub packets_of : Post → List Packet
+packets_of post = list_map packet_of post.sent.items
+
+-- the packet has the leg and the bytes of its place, and its message is within its bounds
+pub record IsSent (place : ℕ) (s : Sent) : Type 0 where
+  pub spelled : record { leg = s.leg; bytes = s.bytes } ≡ spelled place (packet_of s)
+  pub bounds : IsMessage (message_of s.message)
+
+-- each has
+abbrev pub ArePackets : Post → Type 0
+ArePackets post = (n : ℕ) (s : Sent) → slice_get post.sent.items n ≡ Some s → IsSent n s
+
+-- the packet was sent in this place
+abbrev pub IsSentAt : Post → ℕ → WirePacket → Type 0
+IsSentAt post place given = (p : Packet) × (slice_get (packets_of post) place ≡ Some p) × (spelled place p ≡ given)
+
+-- it was sent in none
+abbrev pub WasNotSent : Post → WirePacket → Type 0
+WasNotSent post given = (place : ℕ) (p : Packet) → slice_get (packets_of post) place ≡ Some p → spelled place p ≢ given
+
+-- these packets were put on a wire that tells, but for those that are lost
+abbrev pub Puts : {N : Type 0} → Ghosts N → N → N → Post → List WirePacket → Type 0
+Puts n old new post packets = IsTrue n.tells → n.sent new ≡ n.sent old ++ let_through post.armed.items packets
+
+-- the packet of this place was put again
+abbrev pub RepeatsAt : {N : Type 0} → Ghosts N → N → N → Post → ℕ → Type 0
+RepeatsAt n old new post place = (p : Packet) × (slice_get (packets_of post) place ≡ Some p) × Puts n old new post (spelled place p ∷ [])
+
+-- the loss of the put with this number from now on is armed too; 0 disarms all
+abbrev pub armed_with : ℕ → List ℕ → List ℕ
+armed_with number armed = if nat_eq number 0 then [] else armed ++ number ∷ []

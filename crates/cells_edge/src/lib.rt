@@ -19,6 +19,7 @@
 //! leaves a sink with some front of the piece. It stands on `cells_base`; its caller keeps nothing.
 #![tactic(auto)]
 
+mod clock;
 mod memory;
 mod pieces;
 pub mod real;
@@ -27,7 +28,9 @@ mod source;
 mod wire;
 #[cfg(test)]
 mod tests;
+mod wire;
 
+pub use clock::{Clock, FixedClock};
 pub use memory::{BytesSink, BytesSource};
 pub use pieces::{read_behind, read_front, write_all};
 pub use sink::{Sink, SinkFailed};

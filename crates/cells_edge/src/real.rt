@@ -3,10 +3,11 @@
 ghost use Rattle.std.specs.Prelude.{◌≡◌, false, []};
 ghost use Rattle.std.specs.Io.{ReadsAtMost};
 
-use crate::{Sink, SinkFailed, Source, SourceFailed};
+use crate::{Clock, Sink, SinkFailed, Source, SourceFailed};
 use std::fs::OpenOptions;
 use std::io::{self, ErrorKind, Read, Write};
-use std::rt::Files;
+use std::rt::{self, Files};
+use std::time::{SystemTime, UNIX_EPOCH};
 
 /// Any reader of std.
 #[derive(Drop)]
@@ -141,6 +142,33 @@ impl<W: Write> Sink for StdSink<W> {
                 self.faults = self.faults.saturating_add(1);
                 Err(SinkFailed)
             }
+        }
+    }
+}
+
+/// The system's clock: the seconds since the start of 1970, and 0 before it or where no clock can be read.
+pub struct SystemClock<'a, R: rt::Clock> {
+    rt: &'a R,
+}
+
+impl<'a, R: rt::Clock> SystemClock<'a, R> {
+    pub fn new(rt: &'a R) -> Self {
+        SystemClock { rt }
+    }
+}
+
+impl<'a, R: rt::Clock> Clock for SystemClock<'a, R> {
+    ghost tells = { false };
+
+    ghost moment = { λ c. 0 };
+
+    fn now(&mut self) -> u64 {
+        let Ok(now) = SystemTime::now(self.rt) else {
+            return 0;
+        };
+        match now.duration_since(UNIX_EPOCH) {
+            Ok(since) => since.as_secs(),
+            Err(_) => 0,
         }
     }
 }

@@ -25,7 +25,6 @@ mod pieces;
 pub mod real;
 mod sink;
 mod source;
-mod wire;
 #[cfg(test)]
 mod tests;
 mod wire;

@@ -3,3 +3,9 @@ pub mod Post
 pub mod Serving
 pub mod Faults
 pub mod Hearing
+pub mod World
+pub mod Cluster
+pub mod Wanted
+pub mod Lines
+pub mod Opening
+pub mod Ending

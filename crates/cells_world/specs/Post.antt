@@ -1,13 +1,15 @@
 -- The packets that were sent.
 use Rattle.std.specs.Prelude.{◌≡◌, ◌≢◌, ℕ, ◌+◌, nat_eq, if◌then◌else◌, IsTrue, List, [], ◌∷◌, ◌++◌, length, map as list_map, Some}
-use Rattle.std.specs.List.{slice_get}
+use Rattle.std.specs.List.{slice_get, Contains}
+use Rattle.claim_types.specs.MessageBounds.{IsRequest}
+use Rattle.claim_types.specs.declared.message.Request.{Request}
 use Rattle.cells_edge.specs.declared.wire.Packet.{Packet as WirePacket}
 use Rattle.cells_edge.specs.declared.wire.Wire.{Ghosts}
 use Rattle.claim_laws.specs.World.{Packet}
 use Rattle.claim_laws.specs.Bounded.{IsMessage}
 use Rattle.cells_world.specs.declared.post.Post.{Post}
 use Rattle.cells_world.specs.declared.post.Sent.{Sent}
-use Rattle.cells_world.specs.Packets.{message_of, spelled, let_through}
+use Rattle.cells_world.specs.Packets.{message_of, spelled, spelled_from, after_puts, let_through}
 
 abbrev pub packet_of : Sent → Packet
 packet_of s = record { message = message_of s.message; answers = s.leg.answers }
@@ -35,6 +37,16 @@ WasNotSent post given = (place : ℕ) (p : Packet) → slice_get (packets_of pos
 -- these packets were put on a wire that tells, but for those that are lost
 abbrev pub Puts : {N : Type 0} → Ghosts N → N → N → Post → List WirePacket → Type 0
 Puts n old new post packets = IsTrue n.tells → n.sent new ≡ n.sent old ++ let_through post.armed.items packets
+
+-- These packets were sent, in order: each got the next place, and was put on a wire that tells, but for those that are lost.
+pub record Sends {N : Type 0} (n : Ghosts N) (wire_old wire_new : N) (old new : Post) (packets : List Packet) : Type 0 where
+  pub sent : packets_of new ≡ packets_of old ++ packets
+  pub put : Puts n wire_old wire_new old (spelled_from (length (packets_of old)) packets)
+  pub armed : new.armed.items ≡ after_puts packets old.armed.items
+
+-- requests within their bounds
+abbrev pub AreRequests : List Request → Type 0
+AreRequests requests = (request : Request) → Contains requests request → IsRequest request
 
 -- the packet of this place was put again
 abbrev pub RepeatsAt : {N : Type 0} → Ghosts N → N → N → Post → ℕ → Type 0

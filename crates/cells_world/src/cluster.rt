@@ -1,26 +1,33 @@
 //! Service and cells on one disk, with a wire between them.
-ghost use Rattle.std.specs.Prelude.{◌≡◌, ◌≤◌, ◌<◌, ◌+◌, ◌^◌, ℕ, Bool, IsTrue, Some, IfSome, IfNone, IfOk, OnOk, OnErr, IsErrOf, length};
+ghost use Rattle.std.specs.Prelude.{◌≡◌, ◌≤◌, ◌<◌, ◌+◌, ◌^◌, ℕ, Bool, IsTrue, Some, IfSome, IfNone, IfOk, OnOk, OnErr, IsErrOf, length, vec_len, vec_capacity};
 ghost use Rattle.std.specs.List.{slice_get};
 ghost use Rattle.claim_types.specs.declared.limits.TheConstants.{GREATEST_ATTEMPT};
 ghost use Rattle.claim_laws.specs.Bounded.{IsMessage};
 ghost use Rattle.disk_journal.specs.Effects.{FailedAt};
 ghost use Rattle.cells_world.specs.Packets.{message_of};
 ghost use Rattle.cells_world.specs.Post.{packets_of, ArePackets};
-ghost use Rattle.cells_world.specs.Cluster.{IsReady};
+ghost use Rattle.claim_service.specs.State.{kept};
+ghost use Rattle.std.specs.FinMap as map;
+ghost use Rattle.cells_world.specs.Ending.{GoesOn};
+ghost use Rattle.cells_world.specs.Lines.{DrewFewer, Follows, IsBuilt};
+ghost use Rattle.cells_world.specs.Opening.{IsNew, IsOpenEnd, Opens, StandsStill};
+ghost use Rattle.cells_world.specs.declared.limits.TheConstants.{MOST_TAKES, TAKES_A_LINE};
+ghost use Rattle.cells_world.specs.Cluster.{IsReady, IsPlaceOf, Lacks, noted_by, traced_by, IsEndOf};
+ghost use Rattle.cells_world.specs.World.{at as moment, HandsAt, HandsOver};
 
-use crate::fault::{ClusterError, Damage};
+use crate::fault::ClusterError;
 use crate::hear::hear;
 use crate::limits::TAKES_A_LINE;
-use crate::message::Message;
+use crate::message::{Message, receiver_of};
 use crate::post::Post;
 use crate::serve::serve;
 use cell_registry::Registry;
-use cells_base::NoMemory;
 use cells_edge::{Wire, WireError};
+use cells_script::{Answer, Line};
 use claim_service::TopologyNode;
-use claim_types::{Ended, Note, Request, Transition};
+use claim_types::{Ended, Note, Step, Transition};
 use disk_journal::Disk;
-use reconciler::{CellAgent, Requests};
+use reconciler::CellAgent;
 use std::alloc::Global;
 
 /// The service and the cells of a configuration, over one disk, and what they sent to one another.
@@ -45,6 +52,16 @@ fn place_of(cells: &[CellAgent], cell: u16) -> Option<usize>
     cells.iter().position(|agent| agent.store().cell() == cell)
 }
 
+// Traces a step that this take brought about, if there is one.
+fn trace(trace: &mut Vec<Transition>, take: u64, step: Option<Step>)
+    requires { vec_len trace.old < vec_capacity trace.old }
+    ensures { trace.new.items ≡ traced_by step take trace.old.items }
+{
+    if let Some(step) = step {
+        trace.push_reserved(Transition { take, step });
+    }
+}
+
 // Notes an attempt that ended since the records have changed.
 fn note(notes: &mut Vec<Note>, ended: &Option<Ended>)
     requires { vec_len notes.old < vec_capacity notes.old }
@@ -60,6 +77,122 @@ fn note(notes: &mut Vec<Note>, ended: &Option<Ended>)
 }
 
 impl Cluster {
+    // The service answers the request in this place.
+    fn serve_at<D: Disk, N: Wire>(
+        &mut self,
+        alloc: Global,
+        disk: &mut D,
+        wire: &mut N,
+        at: usize,
+    ) -> Result<(), ClusterError>
+        requires ready { IsReady D.Disk disk.old self.old }
+        requires place { at < length self.old.post.sent.items }
+        ensures hands { OnOk result (HandsAt D.Disk at (moment self.old disk.old wire.old) (moment self.new disk.new wire.new)) }
+        ensures ready { OnOk result (IsReady D.Disk disk.new self.new) }
+        ensures failed { IsEndOf D.Disk disk.old disk.new result }
+        ensures handed { IsTrue N.tells → N.handed wire.new ≡ N.handed wire.old }
+        ensures takes { self.new.takes ≡ self.old.takes }
+        ensures later { (D.faults disk.old ≤ D.faults disk.new) × (N.faults wire.old ≤ N.faults wire.new) }
+    {
+        self.trace.reserve(1)?;
+        let Message::Ask(request) = self.post.sent()[at].message() else {
+            return Ok(());
+        };
+        let served = serve(alloc, disk, &mut self.service, &self.registry, request)?;
+        trace(&mut self.trace, self.takes, served.step);
+        self.post
+            .send(alloc, wire, Message::Answer(served.reply), at as u64 + 1)?;
+        Ok(())
+    }
+
+    // The cell that it is for hears the reply in this place, if there is such a cell.
+    fn hear_at<D: Disk, N: Wire>(
+        &mut self,
+        alloc: Global,
+        disk: &mut D,
+        wire: &mut N,
+        at: usize,
+        now: u64,
+    ) -> Result<(), ClusterError>
+        requires ready { IsReady D.Disk disk.old self.old }
+        requires place { at < length self.old.post.sent.items }
+        ensures hands { OnOk result (HandsAt D.Disk at (moment self.old disk.old wire.old) (moment self.new disk.new wire.new)) }
+        ensures ready { OnOk result (IsReady D.Disk disk.new self.new) }
+        ensures failed { IsEndOf D.Disk disk.old disk.new result }
+        ensures handed { IsTrue N.tells → N.handed wire.new ≡ N.handed wire.old }
+        ensures takes { self.new.takes ≡ self.old.takes }
+        ensures later { (D.faults disk.old ≤ D.faults disk.new) × (N.faults wire.old ≤ N.faults wire.new) }
+    {
+        let Message::Answer(reply) = self.post.sent()[at].message() else {
+            return Ok(());
+        };
+        let Some(place) = place_of(self.cells.as_slice(), receiver_of(reply)) else {
+            return Ok(());
+        };
+        self.trace.reserve(1)?;
+        self.notes.reserve(1)?;
+        let told = hear(alloc, disk, &mut self.cells[place], reply, now)?;
+        trace(&mut self.trace, self.takes, told.step);
+        note(&mut self.notes, &told.ended);
+        self.post
+            .send_requests(alloc, wire, told.to_send.into_vec())?;
+        Ok(())
+    }
+
+    // Hands the packet in this place to its receiver.
+    fn hand<D: Disk, N: Wire>(
+        &mut self,
+        alloc: Global,
+        disk: &mut D,
+        wire: &mut N,
+        at: usize,
+        now: u64,
+    ) -> Result<(), ClusterError>
+    {
+        match self.post.sent()[at].message() {
+            Message::Ask(_) => self.serve_at(alloc, disk, wire, at),
+            Message::Answer(_) => self.hear_at(alloc, disk, wire, at, now),
+        }
+    }
+
+    // Takes a packet, and hands it to its receiver if it was sent here. Whether one was given.
+    fn take_one<D: Disk, N: Wire>(
+        &mut self,
+        alloc: Global,
+        disk: &mut D,
+        wire: &mut N,
+        now: u64,
+    ) -> Result<bool, ClusterError>
+    {
+        let packet = match wire.take(alloc) {
+            Ok(Some(packet)) => packet,
+            Ok(None) | Err(WireError::Failed) => return Ok(false),
+            Err(WireError::Memory) => return Err(ClusterError::Memory),
+        };
+        self.takes += 1;
+        if let Some(at) = self.post.place_of(&packet) {
+            self.hand(alloc, disk, wire, at, now)?;
+        }
+        Ok(true)
+    }
+
+    // Takes packets, until a take gives none or as many were taken as a line may take.
+    fn take_all<D: Disk, N: Wire>(
+        &mut self,
+        alloc: Global,
+        disk: &mut D,
+        wire: &mut N,
+        now: u64,
+    ) -> Result<(), ClusterError>
+    {
+        for _ in 0..TAKES_A_LINE {
+            if !self.take_one(alloc, disk, wire, now)? {
+                return Ok(());
+            }
+        }
+        Ok(())
+    }
+
     /// The transitions, in order.
     pub fn trace(&self) -> &[Transition]
         ensures { result.now ≡ self.now.trace.items }
@@ -86,5 +219,51 @@ impl Cluster {
         ensures { result ≡ map.len (kept self.now.service.state).leases.open_leases }
     {
         self.service.leases().open_number()
+    }
+
+    /// Opens the service's file, and then those of the cells in the order of the configuration. A file whose opening failed is
+    /// tried once more.
+    ///
+    /// Errors: [`ClusterError::DiskFailed`] where it failed again; [`ClusterError::Damaged`] with what a file shows;
+    /// [`ClusterError::Memory`].
+    pub fn open<D: Disk>(alloc: Global, disk: &mut D, registry: Registry) -> Result<Cluster, ClusterError>
+        ensures registry { IfOk result (λ c. c.registry ≡ registry) }
+        ensures opens { IsTrue D.tells → StandsStill D.Disk disk.old disk.new → IfOk result (Opens registry (D.seen disk.old)) }
+        ensures ready { IfOk result (IsReady D.Disk disk.new) }
+        ensures new { IfOk result IsNew }
+        ensures end { IsOpenEnd D.Disk registry disk.old disk.new result }
+        ensures later { D.faults disk.old ≤ D.faults disk.new }
+    {
+        Err(ClusterError::Memory)
+    }
+
+    /// Does a line of a script at this moment of the clock, in seconds: the line's own event first, and then it takes packets
+    /// and hands them over, until a take gives none or fails, or as many were taken as a line may take.
+    ///
+    /// Errors: [`ClusterError::DiskFailed`] where calls of the disk on this file failed; [`ClusterError::Memory`]. The cluster
+    /// is not used again then; its trace and its notes stand.
+    pub fn line<D: Disk, N: Wire>(
+        &mut self,
+        alloc: Global,
+        disk: &mut D,
+        wire: &mut N,
+        now: u64,
+        line: &Line,
+    ) -> Result<Answer, ClusterError>
+        requires ready { IsReady D.Disk disk.old self.old }
+        requires takes { self.old.takes < MOST_TAKES }
+        requires drawn { DrewFewer GREATEST_ATTEMPT self.old }
+        requires built { IsBuilt line.now }
+        ensures follows { OnOk result
+            (Follows D.Disk N.Wire now line.now (moment self.old disk.old wire.old) (moment self.new disk.new wire.new)) }
+        ensures ready { OnOk result (IsReady D.Disk disk.new self.new) }
+        ensures registry { self.new.registry ≡ self.old.registry }
+        ensures takes { OnOk result (self.new.takes ≤ self.old.takes + TAKES_A_LINE) }
+        ensures drawn { OnOk result ((most : ℕ) → DrewFewer most self.old → DrewFewer (most + 1) self.new) }
+        ensures grows { GoesOn self.old self.new }
+        ensures end { IsEndOf D.Disk disk.old disk.new result }
+        ensures later { (D.faults disk.old ≤ D.faults disk.new) × (N.faults wire.old ≤ N.faults wire.new) }
+    {
+        Err(ClusterError::Memory)
     }
 }

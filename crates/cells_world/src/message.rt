@@ -19,8 +19,8 @@ pub enum Message {
     Answer(Reply),
 }
 
-// The cell that a reply is for. One to a question, and a page, are for the router.
-fn receiver_of(reply: &Reply) -> u16
+/// The number of the node that a reply is for: the cell of its request. One to a question, and a page, are for the router.
+pub fn receiver_of(reply: &Reply) -> u16
     ensures { result ≡ address_of (message_of (Message.Answer reply.now)) }
 {
     match reply {

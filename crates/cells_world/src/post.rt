@@ -4,12 +4,14 @@ ghost use Rattle.std.specs.List.{slice_get};
 ghost use Rattle.claim_laws.specs.Bounded.{IsMessage};
 ghost use Rattle.claim_laws.specs.World.{Packet as SentPacket};
 ghost use Rattle.cells_world.specs.Packets.{message_of, spelled, is_lost, after_put, let_through};
-ghost use Rattle.cells_world.specs.Post.{packet_of, packets_of, ArePackets, IsSentAt, WasNotSent, Puts, RepeatsAt, armed_with};
+ghost use Rattle.cells_world.specs.Post.{packet_of, packets_of, ArePackets, IsSentAt, WasNotSent, Puts, Sends, AreRequests, RepeatsAt, armed_with};
+ghost use Rattle.claim_laws.specs.Acts.{packet_of as asked_packet};
 ghost use Rattle.cells_world.specs.declared.post.Post.{Post as ThePost};
 
 use crate::message::Message;
 use cells_base::{Copied, NoMemory, Text};
 use cells_edge::{Leg, Packet, Wire, WireError};
+use claim_types::Request;
 use std::alloc::Global;
 
 /// A packet that was sent, and the message that it carries.
@@ -157,10 +159,8 @@ impl Post {
     ) -> Result<(), NoMemory>
         requires packets { ArePackets self.old }
         requires bounds { IsMessage (message_of message) }
-        ensures sent { OnOk result (packets_of self.new ≡ packets_of self.old ++ record { message = message_of message; answers = answers } ∷ []) }
-        ensures put { OnOk result (Puts N.Wire wire.old wire.new self.old
-            (spelled (length (packets_of self.old)) (record { message = message_of message; answers = answers }) ∷ [])) }
-        ensures armed { OnOk result (self.new.armed.items ≡ after_put self.old.armed.items) }
+        ensures sends { OnOk result (Sends N.Wire wire.old wire.new self.old self.new
+            (record { message = message_of message; answers = answers } ∷ [])) }
         ensures packets { OnOk result (ArePackets self.new) }
         ensures handed { IsTrue N.tells → N.handed wire.new ≡ N.handed wire.old }
         ensures later { N.faults wire.old ≤ N.faults wire.new }
@@ -178,6 +178,27 @@ impl Post {
             bytes,
             message,
         });
+        Ok(())
+    }
+
+    /// Sends requests in order, which answer no packet.
+    pub fn send_requests<N: Wire>(
+        &mut self,
+        alloc: Global,
+        wire: &mut N,
+        requests: Vec<Request>,
+    ) -> Result<(), NoMemory>
+        requires packets { ArePackets self.old }
+        requires bounds { AreRequests requests.items }
+        ensures sends { OnOk result
+            (Sends N.Wire wire.old wire.new self.old self.new (list_map asked_packet requests.items)) }
+        ensures packets { OnOk result (ArePackets self.new) }
+        ensures handed { IsTrue N.tells → N.handed wire.new ≡ N.handed wire.old }
+        ensures later { N.faults wire.old ≤ N.faults wire.new }
+    {
+        for request in requests {
+            self.send(alloc, wire, Message::Ask(request), 0)?;
+        }
         Ok(())
     }
 

@@ -1,0 +1,185 @@
+-- What goes from moment to moment joins.
+use Rattle.std.proofs.Common.{◌≡◌, ◌≢◌, ◌⊎◌, inl, inr, ⊎_elim, ℕ, ◌+◌, ◌≤◌, IsTrue, List, [], ◌∷◌, ◌++◌, length, Option, Some, None, refl, sym, ◌∙◌, ap, subst, append_assoc, arith}
+use Rattle.std.specs.Prelude.{unwrap_or, IsSome}
+use Rattle.std.specs.List.{AllByRecursion, Contains, slice_get}
+use Rattle.std.specs.FinMap as map
+use Rattle.disk_journal.specs.declared.disk.Disk.{Ghosts}
+use Rattle.disk_journal.specs.Disk.{Image, IsImage}
+use Rattle.disk_journal.specs.Entries.{Stands}
+use Rattle.disk_journal.proofs.Entries.{stands_in}
+use Rattle.disk_journal.proofs.Moments.{OnlyNow, started, joins, weaker}
+use Rattle.cells_edge.specs.declared.wire.Packet.{Packet as WirePacket}
+use Rattle.cells_edge.specs.declared.wire.Wire.{Ghosts as WireGhosts}
+use Rattle.claim_map.specs.Legal.{Message}
+use Rattle.claim_map.specs.Registry.{Registry, cell_of}
+use Rattle.claim_map.specs.State.{ClaimMap}
+use Rattle.claim_laws.specs.Acts.{after_message, after_packet, with_handed}
+use Rattle.claim_laws.specs.Events.{Event, hands, strays, happens, run}
+use Rattle.claim_laws.specs.Facts.{IsInOrder, WasSent}
+use Rattle.claim_laws.specs.Files.{service_of, store_at}
+use Rattle.claim_laws.specs.World.{Packet, World}
+use Rattle.claim_laws.proofs.Law.{run-in_order}
+use Rattle.claim_laws.proofs.Service.{hands_over}
+use Rattle.claim_service.specs.Node.{service, keeper}
+use Rattle.claim_service.specs.State.{kept}
+use Rattle.claim_service.specs.declared.limits.TheConstants.{SERVICE_FILE}
+use Rattle.cell_store.specs.Store.{store, stored, keeper as store_keeper}
+use Rattle.reconciler.specs.declared.agent.CellAgent.{CellAgent}
+use Rattle.cells_base.proofs.Members.{at_place}
+use Rattle.cells_world.specs.Cluster.{IsReady}
+use Rattle.cells_world.specs.Packets.{spelled}
+use Rattle.cells_world.specs.Post.{packets_of, IsSentAt, WasNotSent}
+use Rattle.cells_world.specs.World.{IsIn, IsOf, IsOfEither, IsReached, At, at as moment, AreGiven, IsHandOver, Goes, HandsOver, HandsAt, Leads}
+use Rattle.cells_world.specs.declared.cluster.Cluster.{Cluster}
+use Rattle.cells_world.proofs.Served.{kept_on_file}
+
+pub run_append : (registry : Registry) (es fs : List Event) (w : World) → run registry (es ++ fs) w ≡ run registry fs (run registry es w)
+run_append registry [] fs w = refl
+run_append registry (e ∷ es) fs w = run_append registry es fs (happens registry w e)
+
+append_nil : {X : Type 0} (xs : List X) → xs ≡ xs ++ []
+append_nil [] = refl
+append_nil (x ∷ xs) = ap (λ ys. x ∷ ys) (append_nil xs)
+
+module _ (registry : Registry) where
+  reached_sooner : (w : World) (es fs : List Event) (img : Image) → IsReached registry w es img → IsReached registry w (es ++ fs) img
+  reached_sooner w es fs img is = record {
+    front = is.front;
+    rest = is.rest ++ fs;
+    cut = sym (append_assoc is.front is.rest fs) ∙ ap (λ x. x ++ fs) is.cut;
+    is_of = is.is_of;
+  }
+
+  reached_later : (w : World) (es fs : List Event) (img : Image) → IsReached registry (run registry es w) fs img → IsReached registry w (es ++ fs) img
+  reached_later w es fs img is = record {
+    front = es ++ is.front;
+    rest = is.rest;
+    cut = append_assoc es is.front is.rest ∙ ap (λ x. es ++ x) is.cut;
+    is_of = subst (IsOf registry img) (sym (run_append registry es is.front w)) is.is_of;
+  }
+
+  reached_now : (w : World) (es : List Event) (img : Image) → IsOf registry img w → IsReached registry w es img
+  reached_now w es img is = record { front = []; rest = es; cut = refl; is_of = is }
+
+  -- packets given, and then others
+  given_append : (w : World) (ps : List WirePacket) (es : List Event) (qs : List WirePacket) (fs : List Event) → AreGiven registry w ps es → AreGiven registry (run registry es w) qs fs → AreGiven registry w (ps ++ qs) (es ++ fs)
+  given_append w ps [] qs fs first second = subst (λ x. AreGiven registry w x fs) (ap (λ x. x ++ qs) (sym first)) second
+  given_append w ps (e ∷ es) qs fs first second =
+      (first.0, first.1 ++ qs, ap (λ x. x ++ qs) first.2 ∙ append_assoc first.0 first.1 qs, first.3, given_append (happens registry w e) first.1 es qs fs first.4 second)
+
+all_append : (es fs : List Event) → AllByRecursion IsHandOver es → AllByRecursion IsHandOver fs → AllByRecursion IsHandOver (es ++ fs)
+all_append [] fs all more = more
+all_append (e ∷ es) fs all more = (all.0, all_append es fs all.1 more)
+
+-- between calls every image stands for the world
+pub ready_is_of : {D : Type 0} (g : Ghosts D) (d : D) (c : Cluster) (w : World) → IsReady g d c → IsTrue g.tells → IsIn c w → (img : Image) → IsImage (g.may_leave d) img → IsOf c.registry img w
+ready_is_of g d c w ready tells is_in img is = record {
+  service = subst (λ s. Stands service img SERVICE_FILE s) (sym is_in.service)
+      (subst (λ q. Stands service img q (kept c.service.state)) ready.service.node.file (stands_in g service d (keeper c.service) tells ready.service.at_rest img (λ q own. is q)));
+  stores = λ id known. (let found = ready.agents.there id known in subst (λ q. Stands (store q) img q (store_at w q)) found.2 (one found.0 found.1));
+}
+  where
+    one : (a : CellAgent) → Contains c.cells.items a → Stands (store a.store.cell) img a.store.cell (store_at w a.store.cell)
+    one a inside =
+        subst (λ s. Stands (store a.store.cell) img a.store.cell s) (sym (kept_on_file w a (is_in.cells a inside)))
+        (subst (λ q. Stands (store a.store.cell) img q (stored a.store)) (ready.cells a inside).agent.store.file
+        (stands_in g (store a.store.cell) d (store_keeper a.store) tells (ready.cells a inside).at_rest img (λ q own. is q)))
+
+module _ {D N : Type 0} (g : Ghosts D) (n : WireGhosts N) where
+  goes_on : (registry : Registry) (w : World) (a b c : At D N) (es fs : List Event) → Goes g n registry w a b es → Goes g n registry (run registry es w) b c fs → Goes g n registry w a c (es ++ fs)
+  goes_on registry w a b c es fs first second = record {
+    now = subst (IsIn c.cluster) (sym (run_append registry es fs w)) second.now;
+    moments = joins g a.disk b.disk c.disk (IsReached registry w es) (IsReached registry (run registry es w) fs) (IsReached registry w (es ++ fs)) first.moments second.moments
+        (λ img is. reached_sooner registry w es fs img is)
+        (λ img is. reached_later registry w es fs img is);
+    handed = λ tells. (
+        let one = first.handed tells in
+        let two = second.handed tells in
+        (one.0 ++ two.0, two.1 ∙ ap (λ h. h ++ two.0) one.1 ∙ append_assoc (n.handed a.wire) one.0 two.0, given_append registry w one.0 es two.0 fs one.2 two.2));
+  }
+
+  -- THE LOOP: what hands packets over from one moment to a second and from there to a third, does so from the first to the third.
+  pub hands_on : (a b c : At D N) → b.cluster.registry ≡ a.cluster.registry → HandsOver g n a b → HandsOver g n b c → HandsOver g n a c
+  hands_on a b c same first second start w order is_in =
+      let registry = a.cluster.registry in
+      let one = first start w order is_in in
+      let order_then = run-in_order registry start one.0 w order in
+      let two = second start (run registry one.0 w) (subst (λ r. IsInOrder r start (run registry one.0 w)) (sym same) order_then) one.2.now in
+      (one.0 ++ two.0, all_append one.0 two.0 one.1 two.1, goes_on registry w a b c one.0 two.0 one.2 (subst (λ r. Goes g n r (run registry one.0 w) b c two.0) same two.2))
+
+  -- nothing was handed over
+  pub hands_nothing : (a : At D N) → OnlyNow g → IsReady g a.disk a.cluster → HandsOver g n a a
+  hands_nothing a only_now ready start w order is_in = ([], tt, record {
+    now = is_in;
+    moments = λ tells. started g a.disk (IsReached a.cluster.registry w []) only_now (λ img is. reached_now a.cluster.registry w [] img (ready_is_of g a.disk a.cluster w ready tells is_in img is));
+    handed = λ tells. ([], append_nil (n.handed a.wire), refl);
+  })
+
+  -- a take gave nothing
+  pub hands_none : (a : At D N) (wire : N) → OnlyNow g → IsReady g a.disk a.cluster → (IsTrue n.tells → n.handed wire ≡ n.handed a.wire) → HandsOver g n a (moment a.cluster a.disk wire)
+  hands_none a wire only_now ready same start w order is_in = ([], tt, record {
+    now = is_in;
+    moments = λ tells. started g a.disk (IsReached a.cluster.registry w []) only_now (λ img is. reached_now a.cluster.registry w [] img (ready_is_of g a.disk a.cluster w ready tells is_in img is));
+    handed = λ tells. ([], same tells ∙ append_nil (n.handed a.wire), refl);
+  })
+
+length_push : {X : Type 0} (xs : List X) (y : X) → length (xs ++ y ∷ []) ≡ length xs + 1
+length_push [] y = refl
+length_push (x ∷ xs) y = let rest = length_push xs y in omega (arith, rest)
+
+-- one more packet was handed over, and nothing else changed
+pub record CountsOne (c b : Cluster) : Type 0 where
+  pub registry : b.registry ≡ c.registry
+  pub service : kept b.service.state ≡ kept c.service.state
+  pub cells : b.cells.items ≡ c.cells.items
+  pub sent : packets_of b.post ≡ packets_of c.post
+  pub trace : b.trace.items ≡ c.trace.items
+  pub notes : b.notes.items ≡ c.notes.items
+  pub takes : b.takes ≡ c.takes + 1
+
+counted_in : (c b : Cluster) (w : World) (m : Option Message) → IsIn c w → CountsOne c b → IsIn b (with_handed m w)
+counted_in c b w m is_in one = record {
+  service = is_in.service ∙ sym one.service;
+  cells = λ a there. (let was = is_in.cells a (subst (λ as_all. Contains as_all a) one.cells there) in record { tree = was.tree; agent = was.agent });
+  only = λ cell x there. (let was = is_in.only cell x there in (was.0, subst (λ as_all. Contains as_all was.0) (sym one.cells) was.1, was.2));
+  sent = is_in.sent ∙ sym one.sent;
+  trace = is_in.trace ∙ sym one.trace;
+  notes = is_in.notes ∙ sym one.notes;
+  takes = length_push w.handed m ∙ ap (λ k. k + 1) is_in.takes ∙ sym one.takes;
+}
+
+-- files that stand for a world stand for it where one more packet was handed over, and the other way round
+counted_of : (registry : Registry) (img : Image) (w : World) (m : Option Message) → IsOf registry img (with_handed m w) → IsOf registry img w
+counted_of registry img w m is = record { service = is.service; stores = is.stores }
+
+module _ {D N : Type 0} (g : Ghosts D) (n : WireGhosts N) (a : At D N) (b : Cluster) (given : WirePacket) (one : CountsOne a.cluster b) where
+  -- a packet that was sent here is handed to its receiver
+  pub hands_sent : (place : ℕ) (c : At D N) (v : N) → IsSentAt a.cluster.post place given → HandsAt g place (moment b a.disk v) c → (IsTrue n.tells → n.handed c.wire ≡ n.handed a.wire ++ given ∷ []) → HandsOver g n a c
+  unfolding happens
+  hands_sent place c v found hands handed start w order is_in =
+      let registry = a.cluster.registry in
+      let p = found.0 in
+      let in_place : slice_get w.sent place ≡ Some p = ap (λ ps. slice_get ps place) is_in.sent ∙ found.1 in
+      let was_sent : (x : Message) → Some p.message ≡ Some x → WasSent w.sent x = λ x same. (p, at_place w.sent place p in_place, cc) in
+      let then_order = hands_over registry start w (Some p.message) was_sent order in
+      let leads = hands p (ap (λ ps. slice_get ps place) one.sent ∙ found.1) start (with_handed (Some p.message) w) (subst (λ r. IsInOrder r start (with_handed (Some p.message) w)) (sym one.registry) then_order) (counted_in a.cluster b w (Some p.message) is_in one) in
+      let comes : happens registry w (hands place) ≡ after_message b.registry (place + 1) p.message (with_handed (Some p.message) w) =
+          ap (λ o. after_packet registry (place + 1) o w) in_place ∙ ap (λ r. after_message r (place + 1) p.message (with_handed (Some p.message) w)) (sym one.registry) in
+      (hands place ∷ [], (tt, tt), record {
+        now = subst (IsIn c.cluster) (sym comes) leads.now;
+        moments = weaker g a.disk c.disk (IsOfEither b.registry (with_handed (Some p.message) w) (after_message b.registry (place + 1) p.message (with_handed (Some p.message) w))) (IsReached registry w (hands place ∷ [])) leads.moments
+            (λ img either. ⊎_elim
+                (λ before. reached_now registry w (hands place ∷ []) img (counted_of registry img w (Some p.message) (subst (λ r. IsOf r img (with_handed (Some p.message) w)) one.registry before)))
+                (λ later. record { front = hands place ∷ []; rest = []; cut = refl; is_of = subst (IsOf registry img) (sym comes) (subst (λ r. IsOf r img (after_message b.registry (place + 1) p.message (with_handed (Some p.message) w))) one.registry later) })
+                either);
+        handed = λ tells. (given ∷ [], handed tells, (given ∷ [], [], refl, (p, in_place, ap (λ x. x ∷ []) (sym found.2)), refl));
+      })
+
+  -- one that nobody here sent is dropped
+  pub hands_stray : (wire : N) → OnlyNow g → IsReady g a.disk a.cluster → WasNotSent a.cluster.post given → (IsTrue n.tells → n.handed wire ≡ n.handed a.wire ++ given ∷ []) → HandsOver g n a (moment b a.disk wire)
+  unfolding happens
+  hands_stray wire only_now ready missing handed start w order is_in = (strays ∷ [], (tt, tt), record {
+    now = counted_in a.cluster b w None is_in one;
+    moments = λ tells. started g a.disk (IsReached a.cluster.registry w (strays ∷ [])) only_now (λ img is. reached_now a.cluster.registry w (strays ∷ []) img (ready_is_of g a.disk a.cluster w ready tells is_in img is));
+    handed = λ tells. (given ∷ [], handed tells, (given ∷ [], [], refl, (given, refl, λ k p there is. missing k p (ap (λ ps. slice_get ps k) (sym is_in.sent) ∙ there) is), refl));
+  })

@@ -1,0 +1,108 @@
+-- The cluster in a world: the installation as the protocol's laws see it, and what goes from one moment to another.
+use Rattle.std.specs.Prelude.{◌≡◌, ◌≢◌, ◌⊎◌, ℕ, ◌+◌, IsTrue, IsSome, List, [], ◌∷◌, ◌++◌, length, Some}
+use Rattle.std.specs.List.{Contains, slice_get, AllByRecursion}
+use Rattle.std.specs.FinMap as map
+use Rattle.disk_journal.specs.declared.disk.Disk.{Ghosts}
+use Rattle.disk_journal.specs.Disk.{Image}
+use Rattle.disk_journal.specs.Moments.{LeavesOnly}
+use Rattle.disk_journal.specs.Entries.{Stands}
+use Rattle.cells_edge.specs.declared.wire.Packet.{Packet as WirePacket}
+use Rattle.cells_edge.specs.declared.wire.Wire.{Ghosts as WireGhosts}
+use Rattle.claim_map.specs.Legal.{Message, ask, answer}
+use Rattle.claim_map.specs.Registry.{Registry, cell_of}
+use Rattle.claim_map.specs.State.{ClaimMap, tree_of}
+use Rattle.claim_laws.specs.Acts.{after_message}
+use Rattle.claim_laws.specs.Events.{Event, hands, strays, happens, run}
+use Rattle.claim_laws.specs.Facts.{IsInOrder}
+use Rattle.claim_laws.specs.Files.{service_of, store_at}
+use Rattle.claim_laws.specs.Nodes.{Agent}
+use Rattle.claim_laws.specs.World.{Packet, World}
+use Rattle.claim_service.specs.Node.{service}
+use Rattle.claim_service.specs.State.{kept}
+use Rattle.claim_service.specs.declared.limits.TheConstants.{SERVICE_FILE}
+use Rattle.cell_store.specs.Store.{store, stored}
+use Rattle.reconciler.specs.Agent.{kept_by}
+use Rattle.reconciler.specs.declared.agent.CellAgent.{CellAgent}
+use Rattle.cells_world.specs.Packets.{spelled, spelled_from, let_through}
+use Rattle.cells_world.specs.Post.{packets_of}
+use Rattle.cells_world.specs.declared.cluster.Cluster.{Cluster}
+
+-- a cell is in a world: its records and what it keeps are those that the world says
+pub record IsCellIn (w : World) (a : CellAgent) : Type 0 where
+  pub tree : tree_of w.claims a.store.cell ≡ (stored a.store).tree
+  pub agent : map.get w.agents a.store.cell ≡ Some (kept_by a)
+
+-- The cluster is in a world: so is each node, and no other cell; what was sent, traced and noted is the same, and as many packets were handed over.
+pub record IsIn (c : Cluster) (w : World) : Type 0 where
+  pub service : service_of w.claims ≡ kept c.service.state
+  pub cells : (a : CellAgent) → Contains c.cells.items a → IsCellIn w a
+  pub only : (cell : ℕ) (x : Agent) → map.get w.agents cell ≡ Some x → (a : CellAgent) × Contains c.cells.items a × (a.store.cell ≡ cell)
+  pub sent : w.sent ≡ packets_of c.post
+  pub trace : w.trace ≡ c.trace.items
+  pub notes : w.notes ≡ c.notes.items
+  pub takes : length w.handed ≡ c.takes
+
+-- the files stand for what a world's nodes keep
+pub record IsOf (registry : Registry) (img : Image) (w : World) : Type 0 where
+  pub service : Stands service img SERVICE_FILE (service_of w.claims)
+  pub stores : (id : ℕ) → IsSome (cell_of registry id) → Stands (store id) img id (store_at w id)
+
+-- they stand for a world that the first of these events lead to
+pub record IsReached (registry : Registry) (w : World) (es : List Event) (img : Image) : Type 0 where
+  pub front : List Event
+  pub rest : List Event
+  pub cut : front ++ rest ≡ es
+  pub is_of : IsOf registry img (run registry front w)
+
+-- the cluster, the disk and the wire at one moment
+pub record At (D N : Type 0) : Type 0 where
+  pub cluster : Cluster
+  pub disk : D
+  pub wire : N
+
+abbrev pub at : {D N : Type 0} → Cluster → D → N → At D N
+at c d n = record { cluster = c; disk = d; wire = n }
+
+-- What a wire gave for an event: the packet that is handed to its receiver, one that nobody here sent, and nothing for what nodes do of themselves.
+abbrev pub GivenFor : List Packet → List WirePacket → Event → Type 0
+GivenFor sent given (hands n) = (p : Packet) × (slice_get sent n ≡ Some p) × (given ≡ spelled n p ∷ [])
+GivenFor sent given strays = (packet : WirePacket) × (given ≡ packet ∷ []) × ((n : ℕ) (p : Packet) → slice_get sent n ≡ Some p → spelled n p ≢ packet)
+GivenFor sent given other = given ≡ []
+
+-- these packets were given for these events, in order
+abbrev pub AreGiven : Registry → World → List WirePacket → List Event → Type 0
+AreGiven registry w given [] = given ≡ []
+AreGiven registry w given (e ∷ es) = (now : List WirePacket) × (rest : List WirePacket) × (given ≡ now ++ rest) × GivenFor w.sent now e × AreGiven registry (happens registry w e) rest es
+
+-- the files stand for one of two worlds
+abbrev pub IsOfEither : Registry → World → World → Image → Type 0
+IsOfEither registry w v img = IsOf registry img w ⊎ IsOf registry img v
+
+-- what a call leaves that takes a world to another: the cluster is in that, and at each moment the files stood for one of the two
+pub record Leads {D N : Type 0} (g : Ghosts D) (w v : World) (old new : At D N) : Type 0 where
+  pub now : IsIn new.cluster v
+  pub moments : LeavesOnly g old.disk new.disk (IsOfEither old.cluster.registry w v)
+
+-- The packet in this place is handed to its receiver, in any world in order that the cluster is in, where it counts as handed over already.
+abbrev pub HandsAt : {D N : Type 0} → Ghosts D → ℕ → At D N → At D N → Type 0
+HandsAt g place old new =
+    (p : Packet) → slice_get (packets_of old.cluster.post) place ≡ Some p → (start : ClaimMap) (w : World) → IsInOrder old.cluster.registry start w → IsIn old.cluster w →
+    Leads g w (after_message old.cluster.registry (place + 1) p.message w) old new
+
+-- What goes from one moment to another: these events, whatever the disk and the wire do.
+pub record Goes {D N : Type 0} (g : Ghosts D) (n : WireGhosts N) (registry : Registry) (w : World) (old new : At D N) (es : List Event) : Type 0 where
+  pub now : IsIn new.cluster (run registry es w)
+  pub moments : LeavesOnly g old.disk new.disk (IsReached registry w es)
+  pub handed : IsTrue n.tells → (given : List WirePacket) × (n.handed new.wire ≡ n.handed old.wire ++ given) × AreGiven registry w given es
+
+-- a packet is handed over, or dropped
+abbrev pub IsHandOver : Event → Type 0
+IsHandOver (hands n) = Unit {0}
+IsHandOver strays = Unit {0}
+IsHandOver other = ⊥
+
+-- What a call that hands packets over brings about, from any world in order that the cluster is in.
+abbrev pub HandsOver : {D N : Type 0} → Ghosts D → WireGhosts N → At D N → At D N → Type 0
+HandsOver g n old new =
+    (start : ClaimMap) (w : World) → IsInOrder old.cluster.registry start w → IsIn old.cluster w →
+    (es : List Event) × AllByRecursion IsHandOver es × Goes g n old.cluster.registry w old new es

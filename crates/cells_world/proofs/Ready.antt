@@ -28,9 +28,9 @@ module _ {D : Type 0} (g : Ghosts D) (d e : D) where
 
   service_on : (file : ℕ) (old : Cluster) → 1 ≤ file → TouchesOnly g file d e → IsServing g d old.service → IsServing g e old.service
   service_on file old positive touches ready = record {
-    node = ready.node;
+    is = ready.is;
     live = ready.live;
-    at_rest = rests_on g service d e file (keeper old.service) (λ q own mine. (let zero_is = ready.node.file in omega (arith, own, mine, zero_is, positive))) touches.elsewhere ready.at_rest;
+    at_rest = rests_on g service d e file (keeper old.service) (λ q own mine. (let zero_is = ready.is.file in omega (arith, own, mine, zero_is, positive))) touches.elsewhere ready.at_rest;
   }
 
   module _ (old new : Cluster) (ready : IsReady g d old) (registry : new.registry ≡ old.registry) (packets : ArePackets new.post) where

@@ -62,3 +62,9 @@ pub record PutsOne (before : List CellAgent) (k : CellAgent) (now : List CellAge
   pub put : Contains now k
   pub each : (a : CellAgent) → Contains now a → (a ≡ k) ⊎ (Contains before a × (a.store.cell ≢ k.store.cell))
   pub others : (a : CellAgent) → Contains before a → a.store.cell ≢ k.store.cell → Contains now a
+
+-- what handing packets over never changes
+pub record IsSameCluster (before now : Cluster) : Type 0 where
+  pub registry : now.registry ≡ before.registry
+  pub takes : now.takes ≡ before.takes
+  pub waited : now.waited ≡ before.waited

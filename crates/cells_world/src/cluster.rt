@@ -1,18 +1,18 @@
 //! Service and cells on one disk, with a wire between them.
-ghost use Rattle.std.specs.Prelude.{◌≡◌, ◌≤◌, ◌<◌, ◌+◌, ◌^◌, ℕ, Bool, IsTrue, Some, IfSome, IfNone, IfOk, OnOk, OnErr, IsErrOf, length, vec_len, vec_capacity};
+ghost use Rattle.std.specs.Prelude.{◌≡◌, ◌≤◌, ◌<◌, ◌+◌, ◌-◌, ◌^◌, ℕ, Bool, IsTrue, Some, IfSome, IfNone, IfOk, OnOk, OnErr, IsErrOf, length, vec_len, vec_capacity};
 ghost use Rattle.std.specs.List.{slice_get};
 ghost use Rattle.claim_types.specs.declared.limits.TheConstants.{GREATEST_ATTEMPT};
 ghost use Rattle.claim_laws.specs.Bounded.{IsMessage};
 ghost use Rattle.disk_journal.specs.Effects.{FailedAt};
 ghost use Rattle.cells_world.specs.Packets.{message_of};
-ghost use Rattle.cells_world.specs.Post.{packets_of, ArePackets};
+ghost use Rattle.cells_world.specs.Post.{packets_of, ArePackets, SendsSome};
 ghost use Rattle.claim_service.specs.State.{kept};
 ghost use Rattle.std.specs.FinMap as map;
 ghost use Rattle.cells_world.specs.Ending.{GoesOn};
 ghost use Rattle.cells_world.specs.Lines.{DrewFewer, Follows, IsBuilt};
 ghost use Rattle.cells_world.specs.Opening.{IsNew, IsOpenEnd, Opens, StandsStill};
 ghost use Rattle.cells_world.specs.declared.limits.TheConstants.{MOST_TAKES, TAKES_A_LINE};
-ghost use Rattle.cells_world.specs.Cluster.{IsReady, IsPlaceOf, Lacks, noted_by, traced_by, IsEndOf};
+ghost use Rattle.cells_world.specs.Cluster.{IsReady, IsPlaceOf, Lacks, noted_by, traced_by, IsEndOf, IsSameCluster};
 ghost use Rattle.cells_world.specs.World.{at as moment, HandsAt, HandsOver};
 
 use crate::fault::ClusterError;
@@ -49,7 +49,12 @@ fn place_of(cells: &[CellAgent], cell: u16) -> Option<usize>
     ensures found { IfSome result (λ n. IsPlaceOf cells.now cell n) }
     ensures missing { IfNone result (Lacks cells.now cell) }
 {
-    cells.iter().position(|agent| agent.store().cell() == cell)
+    for (place, agent) in cells.iter().enumerate() {
+        if agent.store().cell() == cell {
+            return Some(place);
+        }
+    }
+    None
 }
 
 // Traces a step that this take brought about, if there is one.
@@ -77,69 +82,8 @@ fn note(notes: &mut Vec<Note>, ended: &Option<Ended>)
 }
 
 impl Cluster {
-    // The service answers the request in this place.
-    fn serve_at<D: Disk, N: Wire>(
-        &mut self,
-        alloc: Global,
-        disk: &mut D,
-        wire: &mut N,
-        at: usize,
-    ) -> Result<(), ClusterError>
-        requires ready { IsReady D.Disk disk.old self.old }
-        requires place { at < length self.old.post.sent.items }
-        ensures hands { OnOk result (HandsAt D.Disk at (moment self.old disk.old wire.old) (moment self.new disk.new wire.new)) }
-        ensures ready { OnOk result (IsReady D.Disk disk.new self.new) }
-        ensures failed { IsEndOf D.Disk disk.old disk.new result }
-        ensures handed { IsTrue N.tells → N.handed wire.new ≡ N.handed wire.old }
-        ensures takes { self.new.takes ≡ self.old.takes }
-        ensures later { (D.faults disk.old ≤ D.faults disk.new) × (N.faults wire.old ≤ N.faults wire.new) }
-    {
-        self.trace.reserve(1)?;
-        let Message::Ask(request) = self.post.sent()[at].message() else {
-            return Ok(());
-        };
-        let served = serve(alloc, disk, &mut self.service, &self.registry, request)?;
-        trace(&mut self.trace, self.takes, served.step);
-        self.post
-            .send(alloc, wire, Message::Answer(served.reply), at as u64 + 1)?;
-        Ok(())
-    }
-
-    // The cell that it is for hears the reply in this place, if there is such a cell.
-    fn hear_at<D: Disk, N: Wire>(
-        &mut self,
-        alloc: Global,
-        disk: &mut D,
-        wire: &mut N,
-        at: usize,
-        now: u64,
-    ) -> Result<(), ClusterError>
-        requires ready { IsReady D.Disk disk.old self.old }
-        requires place { at < length self.old.post.sent.items }
-        ensures hands { OnOk result (HandsAt D.Disk at (moment self.old disk.old wire.old) (moment self.new disk.new wire.new)) }
-        ensures ready { OnOk result (IsReady D.Disk disk.new self.new) }
-        ensures failed { IsEndOf D.Disk disk.old disk.new result }
-        ensures handed { IsTrue N.tells → N.handed wire.new ≡ N.handed wire.old }
-        ensures takes { self.new.takes ≡ self.old.takes }
-        ensures later { (D.faults disk.old ≤ D.faults disk.new) × (N.faults wire.old ≤ N.faults wire.new) }
-    {
-        let Message::Answer(reply) = self.post.sent()[at].message() else {
-            return Ok(());
-        };
-        let Some(place) = place_of(self.cells.as_slice(), receiver_of(reply)) else {
-            return Ok(());
-        };
-        self.trace.reserve(1)?;
-        self.notes.reserve(1)?;
-        let told = hear(alloc, disk, &mut self.cells[place], reply, now)?;
-        trace(&mut self.trace, self.takes, told.step);
-        note(&mut self.notes, &told.ended);
-        self.post
-            .send_requests(alloc, wire, told.to_send.into_vec())?;
-        Ok(())
-    }
-
-    // Hands the packet in this place to its receiver.
+    // Hands the packet in this place to its receiver: a request to the service, and a reply to the cell that it is for, if there
+    // is such a cell.
     fn hand<D: Disk, N: Wire>(
         &mut self,
         alloc: Global,
@@ -148,10 +92,38 @@ impl Cluster {
         at: usize,
         now: u64,
     ) -> Result<(), ClusterError>
+        requires ready { IsReady D.Disk disk.old self.old }
+        requires place { at < length self.old.post.sent.items }
+        ensures hands { OnOk result
+            (HandsAt D.Disk at (moment self.old disk.old wire.old) (moment self.new disk.new wire.new)) }
+        ensures sends { OnOk result (SendsSome N.Wire wire.old wire.new self.old.post self.new.post) }
+        ensures ready { OnOk result (IsReady D.Disk disk.new self.new) }
+        ensures end { IsEndOf D.Disk disk.old disk.new result }
+        ensures handed { IsTrue N.tells → N.handed wire.new ≡ N.handed wire.old }
+        ensures same { IsSameCluster self.old self.new }
+        ensures later { (D.faults disk.old ≤ D.faults disk.new) × (N.faults wire.old ≤ N.faults wire.new) }
     {
+        self.trace.reserve(1)?;
+        self.notes.reserve(1)?;
         match self.post.sent()[at].message() {
-            Message::Ask(_) => self.serve_at(alloc, disk, wire, at),
-            Message::Answer(_) => self.hear_at(alloc, disk, wire, at, now),
+            Message::Ask(request) => {
+                let served = serve(alloc, disk, &mut self.service, &self.registry, request)?;
+                trace(&mut self.trace, self.takes, served.step);
+                self.post
+                    .send(alloc, wire, Message::Answer(served.reply), at as u64 + 1)?;
+                Ok(())
+            }
+            Message::Answer(reply) => {
+                let Some(place) = place_of(self.cells.as_slice(), receiver_of(reply)) else {
+                    return Ok(());
+                };
+                let told = hear(alloc, disk, &mut self.cells[place], reply, now)?;
+                trace(&mut self.trace, self.takes, told.step);
+                note(&mut self.notes, &told.ended);
+                self.post
+                    .send_requests(alloc, wire, told.to_send.into_vec())?;
+                Ok(())
+            }
         }
     }
 
@@ -163,17 +135,32 @@ impl Cluster {
         wire: &mut N,
         now: u64,
     ) -> Result<bool, ClusterError>
+        requires ready { IsReady D.Disk disk.old self.old }
+        requires takes { self.old.takes < 2 ^ 63 - 1 }
+        ensures hands { OnOk result
+            (HandsOver D.Disk N.Wire (moment self.old disk.old wire.old) (moment self.new disk.new wire.new)) }
+        ensures sends { OnOk result (SendsSome N.Wire wire.old wire.new self.old.post self.new.post) }
+        ensures ready { OnOk result (IsReady D.Disk disk.new self.new) }
+        ensures end { IsEndOf D.Disk disk.old disk.new result }
+        ensures takes { self.new.takes ≤ self.old.takes + 1 }
+        ensures registry { self.new.registry ≡ self.old.registry }
+        ensures waited { self.new.waited ≡ self.old.waited }
+        ensures later { (D.faults disk.old ≤ D.faults disk.new) × (N.faults wire.old ≤ N.faults wire.new) }
     {
         let packet = match wire.take(alloc) {
             Ok(Some(packet)) => packet,
-            Ok(None) | Err(WireError::Failed) => return Ok(false),
+            Ok(None) => return Ok(false),
+            Err(WireError::Failed) => return Ok(false),
             Err(WireError::Memory) => return Err(ClusterError::Memory),
         };
         self.takes += 1;
-        if let Some(at) = self.post.place_of(&packet) {
-            self.hand(alloc, disk, wire, at, now)?;
+        match self.post.place_of(&packet) {
+            Some(at) => {
+                self.hand(alloc, disk, wire, at, now)?;
+                Ok(true)
+            }
+            None => Ok(true),
         }
-        Ok(true)
     }
 
     // Takes packets, until a take gives none or as many were taken as a line may take.
@@ -184,6 +171,17 @@ impl Cluster {
         wire: &mut N,
         now: u64,
     ) -> Result<(), ClusterError>
+        requires ready { IsReady D.Disk disk.old self.old }
+        requires takes { self.old.takes < 2 ^ 63 - TAKES_A_LINE }
+        ensures hands { OnOk result
+            (HandsOver D.Disk N.Wire (moment self.old disk.old wire.old) (moment self.new disk.new wire.new)) }
+        ensures sends { OnOk result (SendsSome N.Wire wire.old wire.new self.old.post self.new.post) }
+        ensures ready { OnOk result (IsReady D.Disk disk.new self.new) }
+        ensures end { IsEndOf D.Disk disk.old disk.new result }
+        ensures takes { self.new.takes ≤ self.old.takes + TAKES_A_LINE }
+        ensures registry { self.new.registry ≡ self.old.registry }
+        ensures waited { self.new.waited ≡ self.old.waited }
+        ensures later { (D.faults disk.old ≤ D.faults disk.new) × (N.faults wire.old ≤ N.faults wire.new) }
     {
         for _ in 0..TAKES_A_LINE {
             if !self.take_one(alloc, disk, wire, now)? {

@@ -6,8 +6,10 @@ mod fault;
 mod hear;
 mod limits;
 mod message;
+mod opening;
 mod post;
 mod serve;
+mod wanted;
 
 pub use cluster::Cluster;
 pub use fault::{ClusterError, Damage};

@@ -29,6 +29,7 @@ returns-in-Some-clause-hands g c =
       notes = c.args.self.now.notes;
       takes = c.args.self.now.takes + 1;
       waited = c.args.self.now.waited;
+      course = c.after-self.result;
     } in
     hands_sent g.D.Disk g.N.Wire (moment c.args.self.now c.args.disk.now c.args.wire.now) counted c.in-Ok-Some.packet
       (record { registry = refl; service = refl; cells = refl; sent = refl; trace = refl; notes = refl; takes = refl })
@@ -48,6 +49,7 @@ returns-clause-hands g c =
       notes = c.args.self.now.notes;
       takes = c.args.self.now.takes + 1;
       waited = c.args.self.now.waited;
+      course = c.args.self.now.course;
     } in
     hands_stray g.D.Disk g.N.Wire (moment c.args.self.now c.args.disk.now c.args.wire.now) counted c.in-Ok-Some.packet
       (record { registry = refl; service = refl; cells = refl; sent = refl; trace = refl; notes = refl; takes = refl })

@@ -8,3 +8,4 @@ pub mod Asked
 pub mod Sending
 pub mod Openings
 pub mod Posted
+pub mod Acting

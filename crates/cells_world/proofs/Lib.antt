@@ -9,3 +9,4 @@ pub mod Sending
 pub mod Openings
 pub mod Posted
 pub mod Acting
+pub mod Reconcile

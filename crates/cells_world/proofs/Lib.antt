@@ -10,3 +10,4 @@ pub mod Openings
 pub mod Posted
 pub mod Acting
 pub mod Reconcile
+pub mod Wanting

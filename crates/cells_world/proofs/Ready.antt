@@ -64,3 +64,14 @@ module _ {D : Type 0} (g : Ghosts D) (d e : D) where
           (puts.each a there);
       packets = packets;
     }
+
+-- packets were sent, and the nodes are as they were
+pub ready_sent : {D : Type 0} (g : Ghosts D) (d : D) (old new : Cluster) → IsReady g d old → new.registry ≡ old.registry → ArePackets new.post → new.service ≡ old.service → new.cells.items ≡ old.cells.items → IsReady g d new
+ready_sent g d old new ready registry packets service cells = record {
+  configured = subst Rattle.claim_map.specs.Bounds.AreCells (sym registry) ready.configured;
+  agents = subst (λ r. AreAgentsOf r new.cells.items) (sym registry) (subst (AreAgentsOf old.registry) (sym cells) ready.agents);
+  thresholds = λ a there. ready.thresholds a (subst (λ as_all. Contains as_all a) cells there) ∙ ap (λ (r : Registry). r.threshold) (sym registry);
+  service = subst (IsServing g d) (sym service) ready.service;
+  cells = λ a there. ready.cells a (subst (λ as_all. Contains as_all a) cells there);
+  packets = packets;
+}

@@ -96,12 +96,12 @@ drawn_stays [] a = refl
 drawn_stays (x ∷ xs) a = drawn_stays xs (without_attempt a x)
 
 -- so many of the attempts that are due have ended, each with a note, and the others are due still
-pub record EndsSome (threshold now ended : ℕ) (before after : Agent) (noted notes : List Note) : Type 0 where
+pub record EndsSome (threshold now ended : ℕ) (before after : Agent) (noted told : List Note) : Type 0 where
   pub done : List LeaseId
   pub cut : due_attempts threshold now before ≡ done ++ due_attempts threshold now after
   pub count : length done ≡ ended
   pub kept : after ≡ without_attempts done before
-  pub notes : notes ≡ noted ++ list_map (λ l. EndedNote l) done
+  pub notes : told ≡ noted ++ list_map (λ l. EndedNote l) done
 
 module _ (threshold now : ℕ) (before : Agent) (noted : List Note) where
   abbrev due : Agent → List LeaseId

@@ -1,5 +1,5 @@
 //! Service and cells on one disk, with a wire between them.
-ghost use Rattle.std.specs.Prelude.{◌≡◌, ◌≤◌, ◌<◌, ◌+◌, ◌-◌, ◌^◌, ◌++◌, ◌∷◌, [], ℕ, Bool, IsTrue, Some, IfSome, IfNone, IfOk, IfErr, OnOk, OnErr, IsErrOf, length, map as list_map, vec_len, vec_capacity};
+ghost use Rattle.std.specs.Prelude.{◌≡◌, ◌≢◌, ◌≤◌, ◌<◌, ◌+◌, ◌-◌, ◌^◌, ◌++◌, ◌∷◌, [], ℕ, Bool, false, IsTrue, Some, IfSome, IfNone, IfOk, IfErr, OnOk, OnErr, IsErrOf, length, map as list_map, vec_len, vec_capacity};
 ghost use Rattle.std.specs.List.{slice_get};
 ghost use Rattle.claim_types.specs.declared.limits.TheConstants.{GREATEST_ATTEMPT};
 ghost use Rattle.claim_laws.specs.Bounded.{IsMessage};
@@ -11,8 +11,10 @@ ghost use Rattle.std.specs.FinMap as map;
 ghost use Rattle.cells_world.specs.Ending.{GoesOn};
 ghost use Rattle.cells_world.specs.Lines.{Acts, DrewFewer, Follows, IsBuilt, cell_of_change};
 ghost use Rattle.cells_script.specs.declared.line.Line.TheVariants.{Range as LineRange, Reconcile};
+ghost use Rattle.claim_types.specs.Bounds.{IsRangeNumber};
 ghost use Rattle.claim_types.specs.MessageBounds.{IsRequest};
 ghost use Rattle.claim_types.specs.declared.rule.Note.TheVariants.{Ended as EndedNote};
+ghost use Rattle.claim_types.specs.declared.rule.Rule.TheVariants.{Memory as RuleMemory};
 ghost use Rattle.claim_laws.specs.Acts.{packet_of as asked_packet};
 ghost use Rattle.claim_laws.specs.Nodes.{due_attempts, without_attempts};
 ghost use Rattle.reconciler.specs.Agent.{kept_by, IsAgent, IsSameAgent};
@@ -86,11 +88,32 @@ fn cell_of_change(line: &Line) -> Option<u16>
     }
 }
 
+// Whether a number is given and is 0, which numbers no range.
+fn is_zero(number: Option<u64>) -> bool
+    ensures zero { IsTrue result → number ≡ Some 0 }
+    ensures other { result ≡ false → IfSome number IsRangeNumber }
+{
+    match number {
+        Some(number) => number == 0,
+        None => false,
+    }
+}
+
 // What the event of a line came to, where it sent this request.
 fn begun_by(request: &Request) -> Begun {
     match request {
         Request::Begin { lease, .. } => Begun::Asked(*lease),
         _ => Begun::Range,
+    }
+}
+
+// The answer to a line whose change this rule refuses.
+fn refused(rule: Rule) -> Result<Answer, NoMemory>
+    ensures { OnOk result (rule ≢ RuleMemory) }
+{
+    match rule {
+        Rule::Memory => Err(NoMemory),
+        _ => Ok(Answer::Refused { rule }),
     }
 }
 
@@ -117,6 +140,7 @@ fn end_due(agent: &mut CellAgent, notes: &mut Vec<Note>, now: u64) -> Result<(),
 // The place of the agent of a cell.
 fn place_of(cells: &[CellAgent], cell: u16) -> Option<usize>
     ensures found { IfSome result (λ n. IsPlaceOf cells.now cell n) }
+    ensures within { IfSome result (λ n. n < length cells.now) }
     ensures missing { IfNone result (Lacks cells.now cell) }
 {
     for (place, agent) in cells.iter().enumerate() {
@@ -299,13 +323,14 @@ impl Cluster {
         ensures later { N.faults wire.old ≤ N.faults wire.new }
         ensures same { IsSameBeside self.old self.new }
     {
-        let Some(place) = place_of(self.cells.as_slice(), cell) else {
+        let cells = self.cells.as_slice();
+        let Some(place) = place_of(cells, cell) else {
             return Ok(Begun::Told(Answer::NoCell));
         };
-        if number == Some(0) {
+        if is_zero(number) {
             return Ok(Begun::Told(Answer::Waiting { lease: None }));
         }
-        let request = self.cells.as_slice()[place].ask_range(number);
+        let request = cells[place].ask_range(number);
         self.request(alloc, wire, request)?;
         Ok(Begun::Range)
     }
@@ -331,11 +356,11 @@ impl Cluster {
         ensures later { N.faults wire.old ≤ N.faults wire.new }
         ensures same { IsSameBeside self.old self.new }
     {
-        let Some(place) = place_of(self.cells.as_slice(), cell) else {
+        let cells = self.cells.as_slice();
+        let Some(place) = place_of(cells, cell) else {
             return Ok(Begun::Told(Answer::NoCell));
         };
-        let Some(change) = change_wanted(alloc, line, self.cells.as_slice()[place].store().tree())?
-        else {
+        let Some(change) = change_wanted(alloc, line, cells[place].store().tree())? else {
             return Ok(Begun::Told(Answer::NoCell));
         };
         match self.cells[place].ask_change(alloc, change, now) {
@@ -344,8 +369,7 @@ impl Cluster {
                 self.request(alloc, wire, request)?;
                 Ok(begun)
             }
-            Err(Rule::Memory) => Err(ClusterError::Memory),
-            Err(rule) => Ok(Begun::Told(Answer::Refused { rule })),
+            Err(rule) => Ok(Begun::Told(refused(rule)?)),
         }
     }
 

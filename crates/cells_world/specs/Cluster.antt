@@ -74,6 +74,16 @@ pub record SendsOnly (before now : Cluster) : Type 0 where
   pub takes : now.takes ≡ before.takes
   pub waited : now.waited ≡ before.waited
 
+-- nothing but the wire, the clock and what is lost has changed
+pub record IsSameButWire (before now : Cluster) : Type 0 where
+  pub registry : now.registry ≡ before.registry
+  pub service : now.service ≡ before.service
+  pub cells : now.cells ≡ before.cells
+  pub sent : now.post.sent ≡ before.post.sent
+  pub trace : now.trace ≡ before.trace
+  pub notes : now.notes ≡ before.notes
+  pub takes : now.takes ≡ before.takes
+
 -- what the event of a line leaves as it was
 pub record IsSameBeside (before now : Cluster) : Type 0 where
   pub registry : now.registry ≡ before.registry

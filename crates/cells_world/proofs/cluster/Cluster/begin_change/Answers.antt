@@ -39,10 +39,11 @@ ask_change-requires-clause-agent g c =
 
 pub ask_change-requires-clause-drawn : goal.ask_change-requires-clause-drawn
 ask_change-requires-clause-drawn g c =
-    let k : CellAgent = c.index_mut.result.now in
     let within : c.in-Some.place < length c.args.self.now.cells.items = let lt = c.in-Some.ensures.within in let same = ap length c.as_slice-cells.ensures.value in omega (arith, lt, same) in
-    let there = slice_get_read c.args.self.now.cells.items (length c.args.self.now.cells.items) c.in-Some.place k refl within c.index_mut.ensures.value in
-    c.requires.drawn k (at_place c.args.self.now.cells.items c.in-Some.place k there)
+    let there = slice_get_read c.args.self.now.cells.items (length c.args.self.now.cells.items) c.in-Some.place c.index_mut.result.now refl within c.index_mut.ensures.value in
+    let read = slice_get_read c.as_slice-cells.result.now (length c.as_slice-cells.result.now) c.in-Some.place c.index-cells-place.result refl c.in-Some.ensures.within c.index-cells-place.is in
+    let one : c.index-cells-place.result ≡ c.index_mut.result.now = same_some c.index-cells-place.result c.index_mut.result.now (sym read ∙ ap (λ xs. slice_get xs c.in-Some.place) c.as_slice-cells.ensures.value ∙ there) in
+    drawn_left c.index-cells-place.result c.index_mut.result.now one c.drawn.result c.drawn.ensures c.if-drawn.false
 
 pub request-requires-clause-bounds : goal.request-requires-clause-bounds
 request-requires-clause-bounds g c =
@@ -51,7 +52,7 @@ request-requires-clause-bounds g c =
     let there = slice_get_read c.args.self.now.cells.items (length c.args.self.now.cells.items) c.in-Some.place k refl within c.index_mut.ensures.value in
     let inside = at_place c.args.self.now.cells.items c.in-Some.place k there in
     let asked = asked_ok _ c.in-Ok.request c.in-Ok.ensures.asked.0 in
-    subst IsRequest (sym asked.2) (begun k (c.requires.ready.cells k inside).agent (c.requires.drawn k inside) c.in-Some-2.change c.args.now asked.0 asked.1).0
+    subst IsRequest (sym asked.2) (begun k (c.requires.ready.cells k inside).agent (left_of g c) c.in-Some-2.change c.args.now asked.0 asked.1).0
 
 pub returns-in_ok-request-in-Ok-clause-acts : goal.returns-in_ok-request-in-Ok-clause-acts
 returns-in_ok-request-in-Ok-clause-acts g c = λ start w order is_in. (

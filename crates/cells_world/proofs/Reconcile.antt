@@ -101,14 +101,14 @@ pub record EndsSome (threshold now ended : ℕ) (before after : Agent) (noted no
   pub cut : due_attempts threshold now before ≡ done ++ due_attempts threshold now after
   pub count : length done ≡ ended
   pub kept : after ≡ without_attempts done before
-  pub notes : notes ≡ noted ++ list_map (λ l. EndedNote l) done
+  pub told : notes ≡ noted ++ list_map (λ l. EndedNote l) done
 
 module _ (threshold now : ℕ) (before : Agent) (noted : List Note) where
   abbrev due : Agent → List LeaseId
   due a = due_attempts threshold now a
 
   pub ends_none : EndsSome threshold now 0 before before noted noted
-  ends_none = record { done = []; cut = refl; count = refl; kept = refl; notes = append_nil noted }
+  ends_none = record { done = []; cut = refl; count = refl; kept = refl; told = append_nil noted }
 
   module _ (count : ℕ) (after : Agent) (notes : List Note) (ends : EndsSome threshold now count before after noted notes) where
     -- one more ends
@@ -119,7 +119,7 @@ module _ (threshold now : ℕ) (before : Agent) (noted : List Note) where
       cut = ends.cut ∙ ap (λ x. ends.done ++ x) (first_of (due after) lease least ∙ ap (λ x. lease ∷ x) (sym rest)) ∙ sym (append_assoc ends.done (lease ∷ []) (due later));
       count = length-append ends.done (lease ∷ []) ∙ ap (λ n. n + 1) ends.count;
       kept = ended ∙ ap (λ a. without_attempt a lease) ends.kept ∙ sym (without_more ends.done lease before);
-      notes = pushed ∙ ap (λ x. x ++ EndedNote lease ∷ []) ends.notes ∙ append_assoc noted (list_map (λ l. EndedNote l) ends.done) (EndedNote lease ∷ [])
+      told = pushed ∙ ap (λ x. x ++ EndedNote lease ∷ []) ends.told ∙ append_assoc noted (list_map (λ l. EndedNote l) ends.done) (EndedNote lease ∷ [])
           ∙ ap (λ x. noted ++ x) (sym (map-append (λ l. EndedNote l) ends.done (lease ∷ [])));
     }
 
@@ -132,7 +132,7 @@ module _ (threshold now : ℕ) (before : Agent) (noted : List Note) where
       ends_kept = ends.kept ∙ ap (λ x. without_attempts x before) all_done
 
       pub ends_noted : notes ≡ noted ++ list_map (λ l. EndedNote l) (due before)
-      ends_noted = ends.notes ∙ ap (λ x. noted ++ list_map (λ l. EndedNote l) x) all_done
+      ends_noted = ends.told ∙ ap (λ x. noted ++ list_map (λ l. EndedNote l) x) all_done
 
     pub none_left : None ≡ slice_get (due after) 0 → due after ≡ []
     none_left least = none_of (due after) least

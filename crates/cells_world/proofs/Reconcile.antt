@@ -1,5 +1,5 @@
 -- An agent acts on its own: every node stays ready. And a reconciliation: its attempts end, and what it asks is sent.
-use Rattle.std.proofs.Common.{◌≡◌, ◌≢◌, ◌⊎◌, inl, inr, ⊎_elim, ℕ, ◌+◌, ◌<◌, ◌≤◌, Bool, true, false, cond, IsTrue, List, [], ◌∷◌, ◌++◌, length, drop, filter, map as list_map, Option, Some, None, refl, sym, ◌∙◌, ap, subst, append_assoc, length-append, arith}
+use Rattle.std.proofs.Common.{◌≡◌, inl, inr, ⊎_elim, ℕ, ◌+◌, ◌<◌, ◌≤◌, Bool, true, false, cond, IsTrue, List, [], ◌∷◌, ◌++◌, length, drop, filter, map as list_map, Some, None, refl, sym, ◌∙◌, ap, subst, append_assoc, length-append, arith}
 use Rattle.std.specs.List.{Contains, slice_get}
 use Rattle.std.specs.FinMap as map
 use Rattle.std.proofs.lemmas.List.{map-append}
@@ -11,7 +11,6 @@ use Rattle.claim_types.specs.Bounds.{IsCell}
 use Rattle.claim_types.specs.Leases.{IsLease}
 use Rattle.claim_types.specs.MessageBounds.{IsRequest}
 use Rattle.claim_types.specs.declared.lease.LeaseId.{LeaseId}
-use Rattle.claim_types.specs.declared.message.Request.{Request}
 use Rattle.claim_types.specs.declared.message.Request.TheVariants.{Commit, List as ListRequest}
 use Rattle.claim_types.specs.declared.operations.Operations.{Operations}
 use Rattle.claim_types.specs.declared.rule.Note.{Note}
@@ -170,12 +169,12 @@ module _ (old new : Cluster) (now : ℕ) (w : World) (is_in : IsIn old w) where
     reconciles_in cell of_cell =
         let due = due_attempts k.threshold now (kept_by k) in
         let comes : after_reconcile k.threshold k.store.cell (map.get w.agents k.store.cell) now w ≡ after_reconcile k.threshold k.store.cell (Some (kept_by k)) now w =
-            ap (λ o. after_reconcile k.threshold k.store.cell o now w) (is_in.cells k inside).agent in
+        ap (λ o. after_reconcile k.threshold k.store.cell o now w) (is_in.cells k inside).agent in
         subst (λ q. IsIn new (after_reconcile old.registry.threshold q (map.get w.agents q) now w)) of_cell
         (subst (λ t. IsIn new (after_reconcile t k.store.cell (map.get w.agents k.store.cell) now w)) threshold
         (subst (IsIn new) (sym comes)
         (acted_in old new k after inside store_same puts service trace takes (list_map packet_of (ask_reconcile k.store.cell (kept_by k))) (list_map (λ l. EndedNote l) due) sent notes
-          w is_in (without_attempts due (kept_by k)) ended)))
+        w is_in (without_attempts due (kept_by k)) ended)))
 
 -- a reconciliation draws nothing
 pub reconciles_drawn : (old new : Cluster) (k after : CellAgent) (xs : List LeaseId) → Contains old.cells.items k → PutsOne old.cells.items after new.cells.items → kept_by after ≡ without_attempts xs (kept_by k) → (most : ℕ) → DrewFewer most old → DrewFewer most new

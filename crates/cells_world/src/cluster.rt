@@ -372,8 +372,7 @@ impl Cluster {
         let agent = &mut self.cells[place];
         let requests = agent.ask_reconcile(alloc)?;
         end_due(agent, &mut self.notes, now)?;
-        self.post
-            .send_requests(alloc, wire, requests.into_vec())?;
+        self.post.send_requests(alloc, wire, requests.into_vec())?;
         self.course = Course::awaiting(self.post.sent().len() as u64);
         Ok(Begun::Reconciles)
     }

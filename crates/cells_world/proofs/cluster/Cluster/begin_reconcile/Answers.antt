@@ -1,4 +1,4 @@
-use Rattle.std.proofs.Common.{◌≡◌, ◌<◌, ℕ, List, refl, sym, ◌∙◌, ap, subst, Some, length, get_or, ◌+◌, ◌++◌, arith}
+use Rattle.std.proofs.Common.{◌≡◌, ℕ, List, refl, sym, ◌∙◌, ap, subst, Some, length, get_or, ◌++◌, arith}
 use Rattle.std.specs.Prelude.{map as list_map}
 use Rattle.std.specs.List.{Contains, slice_get}
 use Rattle.std.specs.Vec.{with_item}
@@ -73,10 +73,10 @@ returns-clause-acts g c = λ start w order is_in. (
     let member = inside old.cells.items c.args.cell c.in-Some.place k found c.index_mut-agent.ensures.value in
     let due = c.in_ok-end_due.ensures in
     reconciles_in old new c.args.now w is_in k c.end_due.new.agent member due.store
-      (puts_set old.registry old.cells.items c.in-Some.place k c.end_due.new.agent c.requires.ready.agents stands (ap (λ (s : CellStore). s.cell) due.store))
-      (c.requires.ready.thresholds k member) refl refl refl
-      (c.in_ok-send_requests.ensures.sends.sent ∙ ap (λ rs. packets_of old.post ++ list_map packet_of rs) (c.into_vec.ensures ∙ c.in_ok-requests.ensures))
-      due.notes due.ended c.args.cell (of_cell old.cells.items c.args.cell c.in-Some.place k found c.index_mut-agent.ensures.value))
+    (puts_set old.registry old.cells.items c.in-Some.place k c.end_due.new.agent c.requires.ready.agents stands (ap (λ (s : CellStore). s.cell) due.store))
+    (c.requires.ready.thresholds k member) refl refl refl
+    (c.in_ok-send_requests.ensures.sends.sent ∙ ap (λ rs. packets_of old.post ++ list_map packet_of rs) (c.into_vec.ensures ∙ c.in_ok-requests.ensures))
+    due.notes due.ended c.args.cell (of_cell old.cells.items c.args.cell c.in-Some.place k found c.index_mut-agent.ensures.value))
 
 pub returns-clause-ready : goal.returns-clause-ready
 returns-clause-ready g c =
@@ -99,8 +99,8 @@ returns-clause-ready g c =
     let due = c.in_ok-end_due.ensures in
     let same = ap (λ (s : CellStore). s.cell) due.store in
     ready_acted g.D.Disk c.args.disk.now old new c.requires.ready refl c.in_ok-send_requests.ensures.packets k c.end_due.new.agent member due.store due.same.threshold due.agent refl
-      (puts_set old.registry old.cells.items c.in-Some.place k c.end_due.new.agent c.requires.ready.agents stands same)
-      (agents_set old.registry old.cells.items c.in-Some.place k c.end_due.new.agent c.requires.ready.agents stands same)
+    (puts_set old.registry old.cells.items c.in-Some.place k c.end_due.new.agent c.requires.ready.agents stands same)
+    (agents_set old.registry old.cells.items c.in-Some.place k c.end_due.new.agent c.requires.ready.agents stands same)
 
 pub returns-clause-drawn : goal.returns-clause-drawn
 returns-clause-drawn g c =
@@ -122,4 +122,4 @@ returns-clause-drawn g c =
     let member = inside old.cells.items c.args.cell c.in-Some.place k found c.index_mut-agent.ensures.value in
     let due = c.in_ok-end_due.ensures in
     reconciles_drawn old new k c.end_due.new.agent (due_attempts k.threshold c.args.now (kept_by k)) member
-      (puts_set old.registry old.cells.items c.in-Some.place k c.end_due.new.agent c.requires.ready.agents stands (ap (λ (s : CellStore). s.cell) due.store)) due.ended
+    (puts_set old.registry old.cells.items c.in-Some.place k c.end_due.new.agent c.requires.ready.agents stands (ap (λ (s : CellStore). s.cell) due.store)) due.ended

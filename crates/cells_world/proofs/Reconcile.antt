@@ -1,5 +1,5 @@
 -- An agent acts on its own: every node stays ready. And a reconciliation: its attempts end, and what it asks is sent.
-use Rattle.std.proofs.Common.{◌≡◌, ◌≢◌, ◌⊎◌, inl, inr, ⊎_elim, ℕ, ◌+◌, ◌<◌, ◌≤◌, Bool, true, false, cond, IsTrue, List, [], ◌∷◌, ◌++◌, length, drop, filter, map as list_map, Option, Some, None, refl, sym, ◌∙◌, ap, subst, append_assoc, length-append, arith}
+use Rattle.std.proofs.Common.{◌≡◌, inl, inr, ⊎_elim, ℕ, ◌+◌, ◌<◌, ◌≤◌, Bool, true, false, cond, IsTrue, List, [], ◌∷◌, ◌++◌, length, drop, filter, map as list_map, Some, None, refl, sym, ◌∙◌, ap, subst, append_assoc, length-append, arith}
 use Rattle.std.specs.List.{Contains, slice_get}
 use Rattle.std.specs.FinMap as map
 use Rattle.std.proofs.lemmas.List.{map-append}
@@ -11,7 +11,6 @@ use Rattle.claim_types.specs.Bounds.{IsCell}
 use Rattle.claim_types.specs.Leases.{IsLease}
 use Rattle.claim_types.specs.MessageBounds.{IsRequest}
 use Rattle.claim_types.specs.declared.lease.LeaseId.{LeaseId}
-use Rattle.claim_types.specs.declared.message.Request.{Request}
 use Rattle.claim_types.specs.declared.message.Request.TheVariants.{Commit, List as ListRequest}
 use Rattle.claim_types.specs.declared.operations.Operations.{Operations}
 use Rattle.claim_types.specs.declared.rule.Note.{Note}
@@ -96,19 +95,19 @@ drawn_stays [] a = refl
 drawn_stays (x ∷ xs) a = drawn_stays xs (without_attempt a x)
 
 -- so many of the attempts that are due have ended, each with a note, and the others are due still
-pub record EndsSome (threshold now ended : ℕ) (before after : Agent) (noted told : List Note) : Type 0 where
+pub record EndsSome (threshold now ended : ℕ) (before after : Agent) (noted notes : List Note) : Type 0 where
   pub done : List LeaseId
   pub cut : due_attempts threshold now before ≡ done ++ due_attempts threshold now after
   pub count : length done ≡ ended
   pub kept : after ≡ without_attempts done before
-  pub notes : told ≡ noted ++ list_map (λ l. EndedNote l) done
+  pub told : notes ≡ noted ++ list_map (λ l. EndedNote l) done
 
 module _ (threshold now : ℕ) (before : Agent) (noted : List Note) where
   abbrev due : Agent → List LeaseId
   due a = due_attempts threshold now a
 
   pub ends_none : EndsSome threshold now 0 before before noted noted
-  ends_none = record { done = []; cut = refl; count = refl; kept = refl; notes = append_nil noted }
+  ends_none = record { done = []; cut = refl; count = refl; kept = refl; told = append_nil noted }
 
   module _ (count : ℕ) (after : Agent) (notes : List Note) (ends : EndsSome threshold now count before after noted notes) where
     -- one more ends
@@ -119,7 +118,7 @@ module _ (threshold now : ℕ) (before : Agent) (noted : List Note) where
       cut = ends.cut ∙ ap (λ x. ends.done ++ x) (first_of (due after) lease least ∙ ap (λ x. lease ∷ x) (sym rest)) ∙ sym (append_assoc ends.done (lease ∷ []) (due later));
       count = length-append ends.done (lease ∷ []) ∙ ap (λ n. n + 1) ends.count;
       kept = ended ∙ ap (λ a. without_attempt a lease) ends.kept ∙ sym (without_more ends.done lease before);
-      notes = pushed ∙ ap (λ x. x ++ EndedNote lease ∷ []) ends.notes ∙ append_assoc noted (list_map (λ l. EndedNote l) ends.done) (EndedNote lease ∷ [])
+      told = pushed ∙ ap (λ x. x ++ EndedNote lease ∷ []) ends.told ∙ append_assoc noted (list_map (λ l. EndedNote l) ends.done) (EndedNote lease ∷ [])
           ∙ ap (λ x. noted ++ x) (sym (map-append (λ l. EndedNote l) ends.done (lease ∷ [])));
     }
 
@@ -132,7 +131,7 @@ module _ (threshold now : ℕ) (before : Agent) (noted : List Note) where
       ends_kept = ends.kept ∙ ap (λ x. without_attempts x before) all_done
 
       pub ends_noted : notes ≡ noted ++ list_map (λ l. EndedNote l) (due before)
-      ends_noted = ends.notes ∙ ap (λ x. noted ++ list_map (λ l. EndedNote l) x) all_done
+      ends_noted = ends.told ∙ ap (λ x. noted ++ list_map (λ l. EndedNote l) x) all_done
 
     pub none_left : None ≡ slice_get (due after) 0 → due after ≡ []
     none_left least = none_of (due after) least
@@ -170,12 +169,12 @@ module _ (old new : Cluster) (now : ℕ) (w : World) (is_in : IsIn old w) where
     reconciles_in cell of_cell =
         let due = due_attempts k.threshold now (kept_by k) in
         let comes : after_reconcile k.threshold k.store.cell (map.get w.agents k.store.cell) now w ≡ after_reconcile k.threshold k.store.cell (Some (kept_by k)) now w =
-            ap (λ o. after_reconcile k.threshold k.store.cell o now w) (is_in.cells k inside).agent in
+        ap (λ o. after_reconcile k.threshold k.store.cell o now w) (is_in.cells k inside).agent in
         subst (λ q. IsIn new (after_reconcile old.registry.threshold q (map.get w.agents q) now w)) of_cell
         (subst (λ t. IsIn new (after_reconcile t k.store.cell (map.get w.agents k.store.cell) now w)) threshold
         (subst (IsIn new) (sym comes)
         (acted_in old new k after inside store_same puts service trace takes (list_map packet_of (ask_reconcile k.store.cell (kept_by k))) (list_map (λ l. EndedNote l) due) sent notes
-          w is_in (without_attempts due (kept_by k)) ended)))
+        w is_in (without_attempts due (kept_by k)) ended)))
 
 -- a reconciliation draws nothing
 pub reconciles_drawn : (old new : Cluster) (k after : CellAgent) (xs : List LeaseId) → Contains old.cells.items k → PutsOne old.cells.items after new.cells.items → kept_by after ≡ without_attempts xs (kept_by k) → (most : ℕ) → DrewFewer most old → DrewFewer most new

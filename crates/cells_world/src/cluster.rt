@@ -440,10 +440,10 @@ impl Cluster {
         let Some(place) = place_of(self.cells.as_slice(), cell) else {
             return Ok(Begun::Told(Answer::NoCell));
         };
-        let requests = self.cells.as_slice()[place].ask_reconcile(alloc)?;
-        end_due(&mut self.cells[place], &mut self.notes, now)?;
-        self.post
-            .send_requests(alloc, wire, requests.into_vec())?;
+        let agent = &mut self.cells[place];
+        let requests = agent.ask_reconcile(alloc)?;
+        end_due(agent, &mut self.notes, now)?;
+        self.post.send_requests(alloc, wire, requests.into_vec())?;
         self.course = Course::awaiting(self.post.sent().len() as u64);
         Ok(Begun::Reconciles)
     }

@@ -60,7 +60,7 @@ module _ (registry : Registry) where
     is_of = subst (IsOf registry img) (sym (run_append registry es is.front w)) is.is_of;
   }
 
-  reached_now : (w : World) (es : List Event) (img : Image) → IsOf registry img w → IsReached registry w es img
+  pub reached_now : (w : World) (es : List Event) (img : Image) → IsOf registry img w → IsReached registry w es img
   reached_now w es img is = record { front = []; rest = es; cut = refl; is_of = is }
 
   -- packets given, and then others
@@ -74,7 +74,7 @@ all_append [] fs all more = more
 all_append (e ∷ es) fs all more = (all.0, all_append es fs all.1 more)
 
 module _ {D N : Type 0} (g : Ghosts D) (n : WireGhosts N) where
-  goes_on : (registry : Registry) (w : World) (a b c : At D N) (es fs : List Event) → Goes g n registry w a b es → Goes g n registry (run registry es w) b c fs → Goes g n registry w a c (es ++ fs)
+  pub goes_on : (registry : Registry) (w : World) (a b c : At D N) (es fs : List Event) → Goes g n registry w a b es → Goes g n registry (run registry es w) b c fs → Goes g n registry w a c (es ++ fs)
   goes_on registry w a b c es fs first second = record {
     now = subst (IsIn c.cluster) (sym (run_append registry es fs w)) second.now;
     moments = joins g a.disk b.disk c.disk (IsReached registry w es) (IsReached registry (run registry es w) fs) (IsReached registry w (es ++ fs)) first.moments second.moments

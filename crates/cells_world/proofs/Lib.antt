@@ -11,3 +11,4 @@ pub mod Posted
 pub mod Acting
 pub mod Reconcile
 pub mod Wanting
+pub mod Following

@@ -3,7 +3,7 @@ use Rattle.std.proofs.Common.{◌≡◌, ◌≢◌, ◌⊎◌, inl, inr, ⊎_eli
 use Rattle.std.specs.Prelude.{map as list_map, IsSome, IfSome, Result, Ok, Err}
 use Rattle.std.specs.List.{Contains, slice_get}
 use Rattle.std.specs.FinMap as map
-use Rattle.std.proofs.lemmas.Bool.{lt-ltb}
+use Rattle.std.proofs.lemmas.Bool.{lt-ltb, le-ltb}
 use Rattle.cells_base.proofs.Members.{here, later}
 use Rattle.cells_base.specs.Options.{◌or_else◌}
 use Rattle.cells_base.proofs.Options.{both_none}
@@ -15,6 +15,8 @@ use Rattle.claim_types.specs.declared.message.Request.{Request}
 use Rattle.claim_types.specs.declared.message.Request.TheVariants.{Begin, Range as RangeRequest}
 use Rattle.claim_types.specs.declared.record.Change.{Change}
 use Rattle.claim_types.specs.declared.rule.Rule.{Rule}
+use Rattle.claim_types.specs.declared.rule.Rule.TheVariants.{NoSuchRecord, WrongKind, BadName, Same, TakenHere, HasChildren, TooMany, NoIds, VersionSpent, TooManyRows, Memory as RuleMemory}
+use Rattle.claim_map.specs.Claims.{operations_of}
 use Rattle.claim_map.specs.Registry.{Registry}
 use Rattle.claim_map.specs.Rules.{rule_of}
 use Rattle.claim_map.specs.State.{Tree, tree_of}
@@ -23,11 +25,11 @@ use Rattle.claim_map.proofs.Found.{All-contained}
 use Rattle.claim_map.proofs.Within.{operation_bounds}
 use Rattle.claim_laws.specs.Acts.{packet_of, anybody_may_send, with_agent, with_asked, with_sent, after_ask}
 use Rattle.claim_laws.specs.Events.{asks, requests, happens, run}
-use Rattle.claim_laws.specs.Nodes.{Agent, Asked, ask_range, ask_change, asked_unless, too_many_rows}
+use Rattle.claim_laws.specs.Nodes.{Agent, Asked, ask_range, ask_change, asked_unless, attempt_of, next_lease, too_many_rows, with_attempt}
 use Rattle.claim_laws.specs.World.{Packet, World}
 use Rattle.claim_laws.proofs.Cells.{next_bounds}
 use Rattle.cell_store.specs.Store.{stored, IsStore}
-use Rattle.reconciler.specs.Agent.{kept_by, IsAgent, begin_of, agent_after}
+use Rattle.reconciler.specs.Agent.{kept_by, IsAgent, Answers, begin_of, agent_after}
 use Rattle.reconciler.specs.declared.agent.CellAgent.{CellAgent}
 use Rattle.cells_script.specs.declared.line.Line.{Line}
 use Rattle.cells_script.specs.declared.line.Line.TheVariants.{CreateOrganization, CreateUser, CreateTopGroup, CreateGroup, CreateProject, CreateKey, CreateAddress, CreateDomain, Rename, Remove, Range as RangeLine, Reconcile, Verify, ClassifyFirst, ClassifyCell, ClassifySession, ClassifyClaim, ClassifyPath, Route, Lose, Repeat, Wait, RestartService, Restart}
@@ -35,7 +37,7 @@ use Rattle.cells_world.specs.Cluster.{PutsOne, SendsOnly}
 use Rattle.cells_world.specs.Lines.{asks_range, asks_for, cell_of_change, own_events}
 use Rattle.cells_world.specs.Post.{packets_of}
 use Rattle.cells_world.specs.Wanted.{change_wanted}
-use Rattle.cells_world.specs.World.{IsIn, IsCellIn}
+use Rattle.cells_world.specs.World.{AreGiven, IsIn, IsCellIn}
 use Rattle.cells_world.specs.declared.cluster.Cluster.{Cluster}
 use Rattle.cells_world.proofs.Acting.{acted_in, sent_in}
 use Rattle.cells_world.proofs.Sending.{append_nil}
@@ -120,6 +122,9 @@ pub asked_err : (asked : Result Asked Rule) (rule : Rule) → Err rule ≡ begin
 asked_err (Ok x) rule is = absurd cc
 asked_err (Err theirs) rule is = (theirs, refl)
 
+same_answer : (y z : Asked) → (r : Result Asked Rule) → r ≡ Ok y → r ≡ Ok z → y ≡ z
+same_answer y z r one other = let both = sym one ∙ other in cc
+
 -- The begin of a change: it is within its bounds, and one more attempt was drawn.
 module _ (k : CellAgent) (is : IsAgent k) (left : (kept_by k).drawn < GREATEST_ATTEMPT) (change : Change) (now : ℕ) where
   abbrev tree : Tree
@@ -137,15 +142,8 @@ module _ (k : CellAgent) (is : IsAgent k) (left : (kept_by k).drawn < GREATEST_A
       let store = is.store in
       let fine = operation_bounds tree change a.known store.holds.fits store.holds.ranges store.holds.apart (both_none (rule_of tree change a.known) (too_many_rows a) none).0 in
       let lease = next_bounds k.store.cell a (record { number = store.cell; epoch_least = store.epoch.0; epoch_most = store.epoch.1 }) left in
-      go x at (lease, fine.bounds)
-    where
-      go : (x : Asked) → asked_unless None k.store.cell tree a change now ≡ Ok x → IsRequest (Begin (Rattle.claim_laws.specs.Nodes.next_lease k.store.cell a) (Rattle.claim_map.specs.Claims.operations_of tree change a.known)) → IsBegun x
-      go x at bounds = same_ok at
-        where
-          same_ok : asked_unless None k.store.cell tree a change now ≡ Ok x → IsBegun x
-          same_ok e = subst IsBegun (ok_same _ x e) (bounds, refl)
-          ok_same : (y z : Asked) → Ok {E = Rule} y ≡ Ok z → y ≡ z
-          ok_same y z e = cc
+      let drawn : Asked = record { agent = with_attempt a (next_lease k.store.cell a) (attempt_of tree a change now); lease = next_lease k.store.cell a; ops = operations_of tree change a.known } in
+      subst IsBegun (same_answer drawn x (asked_unless None k.store.cell tree a change now) refl at) ((lease, fine.bounds), refl)
 
   pub begun : (x : Asked) → ask_change k.store.cell tree a change now ≡ Ok x → IsBegun x
   begun x at = begun_unless (rule_of tree change a.known or_else too_many_rows a) refl x at
@@ -216,3 +214,93 @@ pub change_in : (new : Cluster) (w : World) (registry : Registry) (line : Line) 
 change_in new w registry line cell now here change of same wanted is =
     subst (λ es. IsIn new (run registry es w)) (sym (own_of_change w now line cell of ∙ ap (asks_for cell now) (ap (λ q. change_wanted line (tree_of w.claims q)) (sym same) ∙ wanted)))
     (subst (λ q. IsIn new (happens registry w (asks q change now))) same is)
+
+-- an answer that names a rule, unless memory ran out, is that of the asking
+pub answers_rule : (asked : Result Asked Rule) (before : Agent) (rule : Rule) (now : Agent) → Answers asked before (Err rule) now → rule ≢ RuleMemory → (Err rule ≡ begin_of asked) × (now ≡ agent_after asked before)
+answers_rule asked before NoSuchRecord now is apart = is
+answers_rule asked before WrongKind now is apart = is
+answers_rule asked before BadName now is apart = is
+answers_rule asked before Same now is apart = is
+answers_rule asked before (TakenHere key) now is apart = is
+answers_rule asked before HasChildren now is apart = is
+answers_rule asked before (TooMany n) now is apart = is
+answers_rule asked before NoIds now is apart = is
+answers_rule asked before VersionSpent now is apart = is
+answers_rule asked before (TooManyRows n) now is apart = is
+answers_rule asked before RuleMemory now is apart = absurd (apart refl)
+
+-- the last attempt was drawn already: nothing is asked
+pub spent_in : (c : Cluster) (w : World) (registry : Registry) (k : CellAgent) (line : Line) (cell now : ℕ) → cell_of_change line ≡ Some cell → k.store.cell ≡ cell → IsIn c w → Contains c.cells.items k → GREATEST_ATTEMPT ≤ (kept_by k).drawn → IsIn c (run registry (own_events w now line) w)
+unfolding happens
+spent_in c w registry k line cell now of same is_in inside spent =
+    subst (λ es. IsIn c (run registry es w)) (sym (own_of_change w now line cell of)) (go (change_wanted line (tree_of w.claims cell)))
+  where
+    at : map.get w.agents cell ≡ Some (kept_by k)
+    at = ap (map.get w.agents) (sym same) ∙ (is_in.cells k inside).agent
+    go : (o : Option Change) → IsIn c (run registry (asks_for cell now o) w)
+    go None = is_in
+    go (Some change) = subst (λ o. IsIn c (after_ask cell o change now w)) (sym at)
+        (subst (λ b. IsIn c (cond b (with_asked cell (ask_change cell (tree_of w.claims cell) (kept_by k) change now) w) w)) (sym (le-ltb (kept_by k).drawn GREATEST_ATTEMPT spent)) is_in)
+
+-- a line that neither changes records, nor asks for a range, nor reconciles has no event of its own
+pub own_nothing : (w : World) (now : ℕ) (line : Line) → cell_of_change line ≡ None → ((cell : ℕ) (number : Option ℕ) → line ≡ RangeLine cell number → ⊥) → ((cell : ℕ) → line ≡ Reconcile cell → ⊥) → own_events w now line ≡ []
+own_nothing w now (CreateOrganization of name) none range reconcile = absurd cc
+own_nothing w now (CreateUser of name organization) none range reconcile = absurd cc
+own_nothing w now (CreateTopGroup of name organization) none range reconcile = absurd cc
+own_nothing w now (CreateGroup of route) none range reconcile = absurd cc
+own_nothing w now (CreateProject of route) none range reconcile = absurd cc
+own_nothing w now (CreateKey of user value) none range reconcile = absurd cc
+own_nothing w now (CreateAddress of user value) none range reconcile = absurd cc
+own_nothing w now (CreateDomain of route value) none range reconcile = absurd cc
+own_nothing w now (Rename of bucket value name) none range reconcile = absurd cc
+own_nothing w now (Remove of bucket value) none range reconcile = absurd cc
+own_nothing w now (RangeLine of number) none range reconcile = absurd (range of number refl)
+own_nothing w now (Reconcile of) none range reconcile = absurd (reconcile of refl)
+own_nothing w now (Verify of span) none range reconcile = refl
+own_nothing w now ClassifyFirst none range reconcile = refl
+own_nothing w now (ClassifyCell of) none range reconcile = refl
+own_nothing w now (ClassifySession text) none range reconcile = refl
+own_nothing w now (ClassifyClaim bucket value) none range reconcile = refl
+own_nothing w now (ClassifyPath text) none range reconcile = refl
+own_nothing w now (Route method target cookie) none range reconcile = refl
+own_nothing w now (Lose number) none range reconcile = refl
+own_nothing w now (Repeat tag) none range reconcile = refl
+own_nothing w now (Wait seconds) none range reconcile = refl
+own_nothing w now RestartService none range reconcile = refl
+own_nothing w now (Restart of) none range reconcile = refl
+
+-- what nodes do of themselves was given by no wire
+module _ (registry : Registry) (w : World) where
+  asks_given : (cell now : ℕ) (o : Option Change) → AreGiven registry w [] (asks_for cell now o)
+  asks_given cell now None = refl
+  asks_given cell now (Some change) = ([], [], refl, refl, refl)
+
+  range_given : (cell : ℕ) (number : Option ℕ) (o : Option Agent) → AreGiven registry w [] (asks_range cell number o)
+  range_given cell number None = refl
+  range_given cell number (Some a) = ([], [], refl, refl, refl)
+
+  pub own_given : (now : ℕ) (line : Line) → AreGiven registry w [] (own_events w now line)
+  own_given now (CreateOrganization of name) = asks_given of now (change_wanted (CreateOrganization of name) (tree_of w.claims of))
+  own_given now (CreateUser of name organization) = asks_given of now (change_wanted (CreateUser of name organization) (tree_of w.claims of))
+  own_given now (CreateTopGroup of name organization) = asks_given of now (change_wanted (CreateTopGroup of name organization) (tree_of w.claims of))
+  own_given now (CreateGroup of route) = asks_given of now (change_wanted (CreateGroup of route) (tree_of w.claims of))
+  own_given now (CreateProject of route) = asks_given of now (change_wanted (CreateProject of route) (tree_of w.claims of))
+  own_given now (CreateKey of user value) = asks_given of now (change_wanted (CreateKey of user value) (tree_of w.claims of))
+  own_given now (CreateAddress of user value) = asks_given of now (change_wanted (CreateAddress of user value) (tree_of w.claims of))
+  own_given now (CreateDomain of route value) = asks_given of now (change_wanted (CreateDomain of route value) (tree_of w.claims of))
+  own_given now (Rename of bucket value name) = asks_given of now (change_wanted (Rename of bucket value name) (tree_of w.claims of))
+  own_given now (Remove of bucket value) = asks_given of now (change_wanted (Remove of bucket value) (tree_of w.claims of))
+  own_given now (RangeLine of number) = range_given of number (map.get w.agents of)
+  own_given now (Reconcile of) = ([], [], refl, refl, refl)
+  own_given now (Verify of span) = refl
+  own_given now ClassifyFirst = refl
+  own_given now (ClassifyCell of) = refl
+  own_given now (ClassifySession text) = refl
+  own_given now (ClassifyClaim bucket value) = refl
+  own_given now (ClassifyPath text) = refl
+  own_given now (Route method target cookie) = refl
+  own_given now (Lose number) = refl
+  own_given now (Repeat tag) = refl
+  own_given now (Wait seconds) = refl
+  own_given now RestartService = refl
+  own_given now (Restart of) = refl

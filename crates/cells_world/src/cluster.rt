@@ -545,7 +545,7 @@ impl Cluster {
         match self.course.reply(&self.post) {
             None => Ok(waiting),
             Some(Reply::Begun {
-                result: BegunResult::Denied { denial },
+                result: BegunResult::Denied(denial),
                 ..
             }) => Ok(Answer::Denied {
                 lease,

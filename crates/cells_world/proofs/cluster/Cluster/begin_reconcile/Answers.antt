@@ -101,25 +101,3 @@ returns-clause-ready g c =
     ready_acted g.D.Disk c.args.disk.now old new c.requires.ready refl c.in_ok-send_requests.ensures.packets k c.end_due.new.agent member due.store due.same.threshold due.agent refl
     (puts_set old.registry old.cells.items c.in-Some.place k c.end_due.new.agent c.requires.ready.agents stands same)
     (agents_set old.registry old.cells.items c.in-Some.place k c.end_due.new.agent c.requires.ready.agents stands same)
-
-pub returns-clause-drawn : goal.returns-clause-drawn
-returns-clause-drawn g c =
-    let old : Cluster = c.args.self.now in
-    let new : Cluster = record {
-      registry = c.args.self.now.registry;
-      service = c.args.self.now.service;
-      cells = with_item c.args.self.now.cells c.in-Some.place c.end_due.new.agent;
-      post = c.send_requests.new.self;
-      trace = c.args.self.now.trace;
-      notes = c.end_due.new.notes;
-      takes = c.args.self.now.takes;
-      waited = c.args.self.now.waited;
-      course = c.awaiting-self.result;
-    } in
-    let k : CellAgent = c.index_mut-agent.result.now in
-    let found = subst (λ xs. IsPlaceOf xs c.args.cell c.in-Some.place) c.as_slice.ensures.value c.in-Some.ensures.found in
-    let stands = there old.cells.items c.args.cell c.in-Some.place k found c.index_mut-agent.ensures.value in
-    let member = inside old.cells.items c.args.cell c.in-Some.place k found c.index_mut-agent.ensures.value in
-    let due = c.in_ok-end_due.ensures in
-    reconciles_drawn old new k c.end_due.new.agent (due_attempts k.threshold c.args.now (kept_by k)) member
-    (puts_set old.registry old.cells.items c.in-Some.place k c.end_due.new.agent c.requires.ready.agents stands (ap (λ (s : CellStore). s.cell) due.store)) due.ended

@@ -1,0 +1,5 @@
+use Rattle.cells_world.proofs.Agents.{AreSoFar}
+use Rattle.cells_world.proofs.opening.open_agents.Given as goal
+
+abbrev pub invariant-loop-cell : goal.invariant-loop-cell
+invariant-loop-cell g l = AreSoFar g.D.Disk l.cells l.fn.disk l.disk l.cell-index l.agents.items

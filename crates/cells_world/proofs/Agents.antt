@@ -9,9 +9,8 @@ use Rattle.cells_base.proofs.Members.{at_place, nowhere, of_map}
 use Rattle.claim_types.specs.declared.cell.Cell.{Cell}
 use Rattle.disk_journal.specs.declared.disk.Disk.{Ghosts}
 use Rattle.disk_journal.specs.Disk.{Image}
-use Rattle.disk_journal.specs.Effects.{MayLeaveOwn}
-use Rattle.disk_journal.specs.Entries.{Format, HasEntries, IsAtRest, Keeper, Stands, TouchesOnly}
-use Rattle.disk_journal.specs.Journal.{EndsAt, IsJournal, IsOwn, IsRefused}
+use Rattle.disk_journal.specs.Entries.{Format, IsAtRest, Keeper, Stands, TouchesOnly}
+use Rattle.disk_journal.specs.Journal.{EndsAt, IsJournal, IsRefused}
 use Rattle.disk_journal.specs.Moments.{Stays}
 use Rattle.claim_service.specs.Node.{service, keeper}
 use Rattle.claim_service.specs.declared.node.TopologyNode.{TopologyNode}

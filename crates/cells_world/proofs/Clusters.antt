@@ -1,5 +1,5 @@
 -- The service's file is opened, and then those of the cells.
-use Rattle.std.proofs.Common.{◌≡◌, inl, inr, ℕ, ◌≤◌, true, IsTrue, List, refl, sym, ap, subst, arith}
+use Rattle.std.proofs.Common.{◌≡◌, inr, ℕ, ◌≤◌, true, IsTrue, List, sym, subst, arith}
 use Rattle.std.specs.Prelude.{Err}
 use Rattle.std.specs.List.{Contains}
 use Rattle.claim_types.specs.declared.cell.Cell.{Cell}
@@ -18,7 +18,7 @@ use Rattle.cells_world.specs.declared.cluster.Cluster.{Cluster}
 use Rattle.cells_world.specs.declared.fault.ClusterError.{ClusterError}
 use Rattle.cells_world.specs.declared.fault.ClusterError.TheVariants.{DiskFailed, Memory, Damaged}
 use Rattle.cells_world.proofs.Agents.{opened_same, serves_there, shows_same}
-use Rattle.cells_world.proofs.Configured.{agent_known, agents_of, apart_of}
+use Rattle.cells_world.proofs.Configured.{agents_of, apart_of}
 
 -- a cell's file is not the service's
 pub numbered : (registry : Registry) → is_registry registry ≡ true → (c : Cell) → Contains registry.cells c → 1 ≤ c.id

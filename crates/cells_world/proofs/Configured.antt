@@ -1,12 +1,12 @@
 -- The agents of a configuration's cells.
-use Rattle.std.proofs.Common.{◌≡◌, ◌≢◌, ◌⊎◌, inl, inr, ℕ, zero, suc, ◌≤◌, Bool, true, false, cond, nat_eq, List, [], ◌∷◌, ◌++◌, map, Option, Some, None, refl, sym, ◌∙◌, ap, subst, arith}
+use Rattle.std.proofs.Common.{◌≡◌, ◌≢◌, ℕ, zero, suc, Bool, true, false, cond, nat_eq, List, [], ◌∷◌, ◌++◌, map, Option, Some, None, refl, sym, ◌∙◌, ap, subst}
 use Rattle.std.specs.Prelude.{IsSome}
-use Rattle.std.specs.List.{Contains, slice_get, list_any, find}
+use Rattle.std.specs.List.{Contains, slice_get, list_any}
 use Rattle.std.proofs.lemmas.Bool.Decides.{Decides-eqb}
 use Rattle.std.proofs.lemmas.List.Elements.{Contains-append_left, Contains-push}
 use Rattle.std.proofs.lemmas.Option.{slice_get-map}
 use Rattle.cells_base.proofs.Finds.{find_passes, none_any, none_found}
-use Rattle.cells_base.proofs.Members.{at_place, in_map, of_map}
+use Rattle.cells_base.proofs.Members.{in_map, of_map}
 use Rattle.claim_types.specs.declared.cell.Cell.{Cell}
 use Rattle.claim_map.specs.Registry.{Registry, cell_of}
 use Rattle.claim_map.proofs.Found.{Contains-found}

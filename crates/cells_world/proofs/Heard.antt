@@ -89,6 +89,7 @@ module _ {D N : Type 0} (g : Ghosts D) (old new : Cluster) (d e : D) (m n : N) (
     (notes : new.notes.items ≡ noted_by (heard_by k reply).ended old.notes.items)
     (takes : new.takes ≡ old.takes)
     (start : ClaimMap) (w : World) (order : IsInOrder old.registry start w) (is_in : IsIn old w) where
+
   abbrev registry : Registry
   registry = old.registry
 
@@ -141,15 +142,14 @@ module _ {D N : Type 0} (g : Ghosts D) (old new : Cluster) (d e : D) (m n : N) (
         here = ap (λ s. tree_of (after_any w.claims s) cell) is.step ∙ cell_is.tree ∙ sym is.same;
         there = λ q apart. ap (λ s. tree_of (after_any w.claims s) q) is.step;
       }
-
       records_so : Records cell (stored k.store).tree (kept_by k) h → Moves
       records_so is =
           let new_tree : Tree = changed_by (tree_of w.claims is.lease.cell) is.change (ranges_of w.claims.ranges is.lease.cell) in
           let changed : changed_by (stored k.store).tree is.change ((kept_by k).known ++ more.0) ≡ changed_by (stored k.store).tree is.change (kept_by k).known = (stays (stored k.store).tree is.change (kept_by k).known more.0 is.no_rule).changed in
           let same_tree : new_tree ≡ h.tree =
-          ap (λ c. changed_by (tree_of w.claims c) is.change (ranges_of w.claims.ranges c)) is.here
-          ∙ ap (λ t. changed_by t is.change (ranges_of w.claims.ranges cell)) cell_is.tree
-          ∙ ap (changed_by (stored k.store).tree is.change) more.1 ∙ changed ∙ sym is.changed in
+              ap (λ c. changed_by (tree_of w.claims c) is.change (ranges_of w.claims.ranges c)) is.here
+              ∙ ap (λ t. changed_by t is.change (ranges_of w.claims.ranges cell)) cell_is.tree
+              ∙ ap (changed_by (stored k.store).tree is.change) more.1 ∙ changed ∙ sym is.changed in
           record {
             service = ap (λ s. service_of (after_any w.claims s)) is.step;
             here = ap (λ s. tree_of (after_any w.claims s) cell) is.step

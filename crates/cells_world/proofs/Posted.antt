@@ -60,11 +60,8 @@ sent_within post k given is =
 pub repeats : {N : Type 0} (n : Ghosts N) (wire_old wire_new : N) (post : Post) (k : ℕ) (s : Sent) (bytes : List ℕ) → ArePackets post → slice_get post.sent.items k ≡ Some s → bytes ≡ s.bytes →
     (r : Result (Unit {0}) NoMemory) → OnOk r (Puts n wire_old wire_new post (record { leg = s.leg; bytes = bytes } ∷ [])) → OnOk r (RepeatsAt n wire_old wire_new post k)
 repeats n wire_old wire_new post k s bytes are here same (Err e) put = tt
-repeats n wire_old wire_new post k s bytes are here same (Ok x) put = (
-  packet_of s,
-  mapped packet_of post.sent.items k s here,
-  subst (λ (q : WirePacket). Puts n wire_old wire_new post (q ∷ [])) (are k s here).spelled (subst (λ b. Puts n wire_old wire_new post (record { leg = s.leg; bytes = b } ∷ [])) same put),
-)
+repeats n wire_old wire_new post k s bytes are here same (Ok x) put = (packet_of s, mapped packet_of post.sent.items k s here,
+    subst (λ (q : WirePacket). Puts n wire_old wire_new post (q ∷ [])) (are k s here).spelled (subst (λ b. Puts n wire_old wire_new post (record { leg = s.leg; bytes = b } ∷ [])) same put))
 
 -- the elements of what was sent
 abbrev pub items_of : {Z : Type 0} → Vec Sent Z → List Sent

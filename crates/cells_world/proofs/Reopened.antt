@@ -1,5 +1,5 @@
 -- A cluster that was just opened is in the world for which its files stood, with every node opened again.
-use Rattle.std.proofs.Common.{◌≡◌, ◌≢◌, ◌⊎◌, inl, inr, ⊎_elim, ℕ, ◌+◌, ◌<◌, List, [], ◌∷◌, Option, Some, None, refl, sym, ◌∙◌, ap, subst, arith}
+use Rattle.std.proofs.Common.{◌≡◌, ◌⊎◌, inl, inr, ⊎_elim, ℕ, ◌<◌, List, [], ◌∷◌, Option, Some, None, refl, sym, ◌∙◌, ap, subst, arith}
 use Rattle.std.specs.Prelude.{IsSome, unwrap_or}
 use Rattle.std.specs.List.{Contains, slice_get}
 use Rattle.std.specs.Ordering.{nat_cmp}
@@ -14,7 +14,6 @@ use Rattle.disk_journal.proofs.Entries.{one_list_of}
 use Rattle.entry_codec.proofs.Entries.{cell_one, service_one}
 use Rattle.claim_types.specs.declared.lease.LeaseId.{LeaseId}
 use Rattle.claim_map.specs.Registry.{Registry, cell_of}
-use Rattle.claim_map.specs.State.{tree_of}
 use Rattle.claim_laws.specs.Facts.{IsInstalled}
 use Rattle.claim_laws.specs.Files.{Store, service_of, store_at}
 use Rattle.claim_laws.specs.Nodes.{Agent}

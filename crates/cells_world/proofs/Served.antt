@@ -109,6 +109,7 @@ module _ {D N : Type 0} (g : Ghosts D) (old new : Cluster) (d e : D) (m n : N) (
     (notes : new.notes.items ≡ old.notes.items)
     (takes : new.takes ≡ old.takes)
     (start : ClaimMap) (w : World) (order : IsInOrder old.registry start w) (is_in : IsIn old w) where
+
   abbrev registry : Registry
   registry = old.registry
 

@@ -231,7 +231,8 @@ impl Cluster {
         registry: Registry,
     ) -> Result<Cluster, ClusterError>
         ensures registry { IfOk result (λ c. c.registry ≡ registry) }
-        ensures opens { IsTrue D.tells → StandsStill D.Disk disk.old disk.new → IfOk result (Opens registry (D.seen disk.old)) }
+        ensures opens { IsTrue D.tells → StandsStill D.Disk disk.old disk.new →
+            IfOk result (Opens registry (D.seen disk.old)) }
         ensures ready { IfOk result (IsReady D.Disk disk.new) }
         ensures new { IfOk result IsNew }
         ensures end { IsOpenEnd D.Disk registry disk.old disk.new result }

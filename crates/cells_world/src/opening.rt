@@ -96,7 +96,8 @@ pub fn open_service<D: Disk>(
 fn open_store<D: Disk>(alloc: Global, disk: &mut D, cell: u16) -> Result<CellStore, ClusterError>
     requires { IsCell cell }
     ensures ready { IfOk result (IsStoreReady D.Disk disk.new cell) }
-    ensures opened { IsTrue D.tells → StandsStill D.Disk disk.old disk.new → IfOk result (IsOpened cell (D.seen disk.old)) }
+    ensures opened { IsTrue D.tells → StandsStill D.Disk disk.old disk.new →
+        IfOk result (IsOpened cell (D.seen disk.old)) }
     ensures end { IsCellEnd D.Disk cell disk.old disk.new result }
     ensures others { TouchesOnly D.Disk cell disk.old disk.new }
 {
@@ -122,7 +123,8 @@ pub fn open_agent<D: Disk>(
     ensures cell { IfOk result (λ a. a.store.cell ≡ cell) }
     ensures ready { IfOk result (IsAgentReady D.Disk disk.new) }
     ensures idle { IfOk result IsIdle }
-    ensures opened { IsTrue D.tells → StandsStill D.Disk disk.old disk.new → IfOk result (λ a. IsOpened cell (D.seen disk.old) a.store) }
+    ensures opened { IsTrue D.tells → StandsStill D.Disk disk.old disk.new →
+        IfOk result (λ a. IsOpened cell (D.seen disk.old) a.store) }
     ensures end { IsCellEnd D.Disk cell disk.old disk.new result }
     ensures others { TouchesOnly D.Disk cell disk.old disk.new }
 {
@@ -141,7 +143,8 @@ pub fn open_agents<D: Disk>(
     requires apart { AreApart cells.now }
     ensures cells { IfOk result (λ agents. AreOf cells.now agents.items) }
     ensures new { IfOk result (λ agents. AreNew D.Disk disk.new agents.items) }
-    ensures opened { IsTrue D.tells → StandsStill D.Disk disk.old disk.new → IfOk result (λ agents. AreOpened (D.seen disk.old) agents.items) }
+    ensures opened { IsTrue D.tells → StandsStill D.Disk disk.old disk.new →
+        IfOk result (λ agents. AreOpened (D.seen disk.old) agents.items) }
     ensures end { IfErr result (IsOneEnd D.Disk cells.now disk.old disk.new) }
     ensures others { StaysBeside D.Disk cells.now disk.old disk.new }
     ensures later { D.faults disk.old ≤ D.faults disk.new }

@@ -29,10 +29,10 @@ returns-in-Some-clause-hands g c =
       waited = c.args.self.now.waited;
     } in
     hands_sent g.D.Disk g.N.Wire (moment c.args.self.now c.args.disk.now c.args.wire.now) counted c.in-Ok-Some.packet
-    (record { registry = refl; service = refl; cells = refl; sent = refl; trace = refl; notes = refl; takes = refl })
-    c.in-Some.at (moment c.hand.new.self c.hand.new.disk c.hand.new.wire) c.take.new.self
-    c.in-Some.ensures.found c.in_ok-hand-in-Some.ensures.hands
-    (λ tells. c.hand.ensures.handed tells ∙ c.in-Ok-Some.ensures.handed tells)
+      (record { registry = refl; service = refl; cells = refl; sent = refl; trace = refl; notes = refl; takes = refl })
+      c.in-Some.at (moment c.hand.new.self c.hand.new.disk c.hand.new.wire) c.take.new.self
+      c.in-Some.ensures.found c.in_ok-hand-in-Some.ensures.hands
+      (λ tells. c.hand.ensures.handed tells ∙ c.in-Ok-Some.ensures.handed tells)
 
 -- one that nobody here sent
 pub returns-clause-hands : goal.returns-clause-hands
@@ -48,5 +48,5 @@ returns-clause-hands g c =
       waited = c.args.self.now.waited;
     } in
     hands_stray g.D.Disk g.N.Wire (moment c.args.self.now c.args.disk.now c.args.wire.now) counted c.in-Ok-Some.packet
-    (record { registry = refl; service = refl; cells = refl; sent = refl; trace = refl; notes = refl; takes = refl })
-    c.take.new.self g.met.D.Disk.only_now c.requires.ready c.in-None.ensures.missing (λ tells. c.in-Ok-Some.ensures.handed tells)
+      (record { registry = refl; service = refl; cells = refl; sent = refl; trace = refl; notes = refl; takes = refl })
+      c.take.new.self g.met.D.Disk.only_now c.requires.ready c.in-None.ensures.missing (λ tells. c.in-Ok-Some.ensures.handed tells)

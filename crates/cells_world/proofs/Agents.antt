@@ -100,9 +100,6 @@ module _ {D : Type 0} (g : Ghosts D) (cells : List Cell) (old d : D) (i : ℕ) (
       let of = of_map (λ (c : Cell). c.id) cells a.store.cell (at_place (map (λ (c : Cell). c.id) cells) at.0 a.store.cell at.2) in
       none of.0 of.1 (of.2 ∙ clash)))
 
-  pub all_opened : length cells ≤ i → AreOf cells agents
-  all_opened past = so_far.order ∙ ap (λ cs. map (λ (c : Cell). c.id) cs) (take_all i cells past)
-
   -- one file more
   module _ (apart : AreApart cells) (c : Cell) (within : i < length cells) (is : c ≡ get_or cells i c) (e : D) (touches : TouchesOnly g c.id d e) where
     here : slice_get cells i ≡ Some c

@@ -114,6 +114,10 @@ pub record AreNew {D : Type 0} (g : Ghosts D) (d : D) (agents : List CellAgent) 
   pub ready : (a : CellAgent) → Contains agents a → IsAgentReady g d a
   pub idle : (a : CellAgent) → Contains agents a → IsIdle a
 
+-- each may end its attempts from this age on
+abbrev pub AreToEndFrom : ℕ → List CellAgent → Type 0
+AreToEndFrom threshold agents = (a : CellAgent) → Contains agents a → a.threshold ≡ threshold
+
 -- each agent keeps what its file stood for, one epoch on
 abbrev pub AreOpened : Image → List CellAgent → Type 0
 AreOpened img agents = (a : CellAgent) → Contains agents a → IsOpened a.store.cell img a.store

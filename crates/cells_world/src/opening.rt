@@ -11,7 +11,7 @@ ghost use Rattle.cell_store.specs.Opening.{IsOpened};
 ghost use Rattle.disk_journal.specs.Entries.{Stands, TouchesOnly};
 ghost use Rattle.reconciler.specs.Agent.{IsReady as IsAgentReady};
 ghost use Rattle.cells_world.specs.Opening.{IsCellEnd, IsIdle, IsServiceEnd, IsStoreReady, StandsStill};
-ghost use Rattle.cells_world.specs.Opening.{AreApart, AreNew, AreOf, AreOpened, IsOneEnd, StaysBeside};
+ghost use Rattle.cells_world.specs.Opening.{AreApart, AreNew, AreOf, AreOpened, AreToEndFrom, IsOneEnd, StaysBeside};
 ghost use Rattle.cells_world.specs.Faults.{fault_of_service_open, fault_of_cell_open};
 ghost use Rattle.cells_world.specs.Serving.{IsServing};
 
@@ -121,6 +121,7 @@ pub fn open_agent<D: Disk>(
 ) -> Result<CellAgent, ClusterError>
     requires { IsCell cell }
     ensures cell { IfOk result (λ a. a.store.cell ≡ cell) }
+    ensures threshold { IfOk result (λ a. a.threshold ≡ threshold) }
     ensures ready { IfOk result (IsAgentReady D.Disk disk.new) }
     ensures idle { IfOk result IsIdle }
     ensures opened { IsTrue D.tells → StandsStill D.Disk disk.old disk.new →
@@ -143,6 +144,7 @@ pub fn open_agents<D: Disk>(
     requires apart { AreApart cells.now }
     ensures cells { IfOk result (λ agents. AreOf cells.now agents.items) }
     ensures new { IfOk result (λ agents. AreNew D.Disk disk.new agents.items) }
+    ensures thresholds { IfOk result (λ agents. AreToEndFrom threshold agents.items) }
     ensures opened { IsTrue D.tells → StandsStill D.Disk disk.old disk.new →
         IfOk result (λ agents. AreOpened (D.seen disk.old) agents.items) }
     ensures end { IfErr result (IsOneEnd D.Disk cells.now disk.old disk.new) }

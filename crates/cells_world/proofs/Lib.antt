@@ -12,3 +12,6 @@ pub mod Configured
 pub mod Reopened
 pub mod Clusters
 pub mod Posted
+pub mod Acting
+pub mod Reconcile
+pub mod Wanting

@@ -39,6 +39,7 @@ module _ {D : Type 0} (g : Ghosts D) (d e : D) where
     ready_served cells serving touches = record {
       configured = subst Rattle.claim_map.specs.Bounds.AreCells (sym registry) ready.configured;
       agents = subst (λ r. AreAgentsOf r new.cells.items) (sym registry) (subst (AreAgentsOf old.registry) (sym cells) ready.agents);
+      thresholds = λ a there. ready.thresholds a (subst (λ as_all. Contains as_all a) cells there) ∙ ap (λ (r : Registry). r.threshold) (sym registry);
       service = serving;
       cells = λ a there. (
           let was = ready.cells a (subst (λ as_all. Contains as_all a) cells there) in
@@ -48,10 +49,14 @@ module _ {D : Type 0} (g : Ghosts D) (d e : D) where
     }
 
     -- an agent's call was made
-    pub ready_heard : (k now : CellAgent) → Contains old.cells.items k → now.store.cell ≡ k.store.cell → new.service ≡ old.service → PutsOne old.cells.items now new.cells.items → AreAgentsOf old.registry new.cells.items → IsAgentReady g e now → TouchesOnly g k.store.cell d e → IsReady g e new
-    ready_heard k now inside same service_same puts agents is_ready touches = record {
+    pub ready_heard : (k now : CellAgent) → Contains old.cells.items k → now.store.cell ≡ k.store.cell → now.threshold ≡ k.threshold → new.service ≡ old.service → PutsOne old.cells.items now new.cells.items → AreAgentsOf old.registry new.cells.items → IsAgentReady g e now → TouchesOnly g k.store.cell d e → IsReady g e new
+    ready_heard k now inside same threshold service_same puts agents is_ready touches = record {
       configured = subst Rattle.claim_map.specs.Bounds.AreCells (sym registry) ready.configured;
       agents = subst (λ r. AreAgentsOf r new.cells.items) (sym registry) agents;
+      thresholds = λ a there. ⊎_elim
+          (λ (is : a ≡ now). ap (λ (x : CellAgent). x.threshold) is ∙ threshold ∙ ready.thresholds k inside)
+          (λ other. ready.thresholds a other.0)
+          (puts.each a there) ∙ ap (λ (r : Registry). r.threshold) (sym registry);
       service = subst (IsServing g e) (sym service_same) (service_on k.store.cell old (ready.cells k inside).agent.store.cell.0 touches ready.service);
       cells = λ a there. ⊎_elim
           (λ (is : a ≡ now). subst (IsAgentReady g e) (sym is) is_ready)
@@ -59,3 +64,14 @@ module _ {D : Type 0} (g : Ghosts D) (d e : D) where
           (puts.each a there);
       packets = packets;
     }
+
+-- packets were sent, and the nodes are as they were
+pub ready_sent : {D : Type 0} (g : Ghosts D) (d : D) (old new : Cluster) → IsReady g d old → new.registry ≡ old.registry → ArePackets new.post → new.service ≡ old.service → new.cells.items ≡ old.cells.items → IsReady g d new
+ready_sent g d old new ready registry packets service cells = record {
+  configured = subst Rattle.claim_map.specs.Bounds.AreCells (sym registry) ready.configured;
+  agents = subst (λ r. AreAgentsOf r new.cells.items) (sym registry) (subst (AreAgentsOf old.registry) (sym cells) ready.agents);
+  thresholds = λ a there. ready.thresholds a (subst (λ as_all. Contains as_all a) cells there) ∙ ap (λ (r : Registry). r.threshold) (sym registry);
+  service = subst (IsServing g d) (sym service) ready.service;
+  cells = λ a there. ready.cells a (subst (λ as_all. Contains as_all a) cells there);
+  packets = packets;
+}

@@ -1,20 +1,27 @@
 //! Service and cells on one disk, with a wire between them.
-ghost use Rattle.std.specs.Prelude.{◌≡◌, ◌≤◌, ◌<◌, ◌+◌, ◌-◌, ◌^◌, ℕ, Bool, IsTrue, Some, IfSome, IfNone, IfOk, OnOk, OnErr, IsErrOf, length, vec_len, vec_capacity};
+ghost use Rattle.std.specs.Prelude.{◌≡◌, ◌≢◌, ◌≤◌, ◌<◌, ◌+◌, ◌-◌, ◌^◌, ◌++◌, ◌∷◌, [], ℕ, Bool, false, IsTrue, Some, IfSome, IfNone, IfOk, IfErr, OnOk, OnErr, IsErrOf, length, map as list_map, vec_len, vec_capacity};
 ghost use Rattle.std.specs.List.{slice_get};
-ghost use Rattle.claim_types.specs.declared.limits.TheConstants.{GREATEST_ATTEMPT};
 ghost use Rattle.claim_laws.specs.Bounded.{IsMessage};
 ghost use Rattle.disk_journal.specs.Effects.{FailedAt};
 ghost use Rattle.cells_world.specs.Packets.{message_of};
-ghost use Rattle.cells_world.specs.Post.{packets_of, ArePackets, SendsSome};
+ghost use Rattle.cells_world.specs.Post.{packets_of, ArePackets, Sends, SendsSome};
 ghost use Rattle.claim_service.specs.State.{kept};
 ghost use Rattle.std.specs.FinMap as map;
-ghost use Rattle.cells_world.specs.Ending.{GoesOn};
-ghost use Rattle.cells_world.specs.Lines.{DrewFewer, Follows, IsBuilt};
+ghost use Rattle.cells_world.specs.Lines.{Acts, Follows, IsBuilt, cell_of_change, moment_of};
+ghost use Rattle.cells_script.specs.declared.line.Line.TheVariants.{Range as LineRange, Reconcile};
+ghost use Rattle.claim_types.specs.Bounds.{IsRangeNumber};
+ghost use Rattle.claim_types.specs.MessageBounds.{IsRequest};
+ghost use Rattle.claim_types.specs.declared.rule.Note.TheVariants.{Ended as EndedNote};
+ghost use Rattle.claim_types.specs.declared.rule.Rule.TheVariants.{Memory as RuleMemory};
+ghost use Rattle.claim_laws.specs.Acts.{packet_of as asked_packet};
+ghost use Rattle.claim_laws.specs.Nodes.{due_attempts, without_attempts};
+ghost use Rattle.reconciler.specs.Agent.{kept_by, IsAgent, IsSameAgent};
 ghost use Rattle.cells_world.specs.Opening.{IsNew, IsOpenEnd, Opens, StandsStill};
 ghost use Rattle.cells_world.specs.declared.limits.TheConstants.{MOST_TAKES, TAKES_A_LINE};
-ghost use Rattle.cells_world.specs.Cluster.{IsReady, IsPlaceOf, Lacks, noted_by, traced_by, IsEndOf, IsSameCluster};
+ghost use Rattle.cells_world.specs.Cluster.{IsReady, IsPlaceOf, Lacks, noted_by, traced_by, IsEndOf, IsSameBeside, IsSameButWire, IsSameCluster, SendsOnly};
 ghost use Rattle.cells_world.specs.World.{at as moment, HandsAt, HandsOver};
 
+use crate::course::Course;
 use crate::fault::ClusterError;
 use crate::hear::hear;
 use crate::limits::TAKES_A_LINE;
@@ -22,13 +29,17 @@ use crate::message::{Message, receiver_of};
 use crate::opening::{open_agents, open_service};
 use crate::post::Post;
 use crate::serve::serve;
+use crate::wanted::change_wanted;
 use cell_registry::Registry;
+use cells_base::NoMemory;
 use cells_edge::{Wire, WireError};
 use cells_script::{Answer, Line};
 use claim_service::TopologyNode;
-use claim_types::{Ended, Note, Step, Transition};
+use claim_types::{
+    BegunResult, Ended, GREATEST_ATTEMPT, LeaseId, Note, RangedResult, Reply, Request, Rule, Step, Transition,
+};
 use disk_journal::Disk;
-use reconciler::CellAgent;
+use reconciler::{CellAgent, copy_of_denial};
 use std::alloc::Global;
 
 /// The service and the cells of a configuration, over one disk, and what they sent to one another.
@@ -43,11 +54,141 @@ pub struct Cluster {
     takes: u64,
     // Seconds, by the lines that wait.
     waited: u64,
+    course: Course,
+}
+
+// What the event of a line came to.
+#[derive(Drop)]
+enum Begun {
+    // The line is answered.
+    Told(Answer),
+    // A change was asked for, with this lease.
+    Asked(LeaseId),
+    // A range was asked for.
+    Range,
+    // A reconciliation began.
+    Reconciles,
+}
+
+// The cell of a line that asks for a change.
+fn cell_of_change(line: &Line) -> Option<u16>
+    ensures { result ≡ cell_of_change line.now }
+{
+    match line {
+        Line::CreateOrganization { cell, .. } => Some(*cell),
+        Line::CreateUser { cell, .. } => Some(*cell),
+        Line::CreateTopGroup { cell, .. } => Some(*cell),
+        Line::CreateGroup { cell, .. } => Some(*cell),
+        Line::CreateProject { cell, .. } => Some(*cell),
+        Line::CreateKey { cell, .. } => Some(*cell),
+        Line::CreateAddress { cell, .. } => Some(*cell),
+        Line::CreateDomain { cell, .. } => Some(*cell),
+        Line::Rename { cell, .. } => Some(*cell),
+        Line::Remove { cell, .. } => Some(*cell),
+        _ => None,
+    }
+}
+
+// Whether a number is given and is 0, which numbers no range.
+fn is_zero(number: Option<u64>) -> bool
+    ensures zero { IsTrue result → number ≡ Some 0 }
+    ensures other { result ≡ false → IfSome number IsRangeNumber }
+{
+    match number {
+        Some(number) => number == 0,
+        None => false,
+    }
+}
+
+// What the event of a line came to, where it sent this request.
+fn begun_by(request: &Request) -> Begun {
+    match request {
+        Request::Begin { lease, .. } => Begun::Asked(*lease),
+        _ => Begun::Range,
+    }
+}
+
+// The answer to a line whose change this rule refuses.
+fn refused(rule: Rule) -> Result<Answer, NoMemory>
+    ensures { OnOk result (rule ≢ RuleMemory) }
+{
+    match rule {
+        Rule::Memory => Err(NoMemory),
+        _ => Ok(Answer::Refused { rule }),
+    }
+}
+
+// Ends the attempts of an agent that are due at this moment, each with a note.
+fn end_due(agent: &mut CellAgent, notes: &mut Vec<Note>, now: u64) -> Result<(), NoMemory>
+    requires agent { IsAgent agent.old }
+    ensures ended { OnOk result (kept_by agent.new
+        ≡ without_attempts (due_attempts agent.old.threshold now (kept_by agent.old)) (kept_by agent.old)) }
+    ensures notes { OnOk result (notes.new.items
+        ≡ notes.old.items ++ list_map (λ l. EndedNote l) (due_attempts agent.old.threshold now (kept_by agent.old))) }
+    ensures agent { IsAgent agent.new }
+    ensures store { agent.new.store ≡ agent.old.store }
+    ensures same { IsSameAgent agent.old agent.new }
+{
+    for _ in 0..agent.pending() {
+        let Some(lease) = agent.expire(now) else {
+            return Ok(());
+        };
+        notes.push(Note::Ended { lease })?;
+    }
+    Ok(())
+}
+
+// What stands behind so many in a list.
+fn behind<'a, T>(all: &'a [T], count: usize) -> &'a [T] {
+    if count <= all.len() { &all[count..] } else { all }
+}
+
+// Whether the change of this lease is recorded among these transitions.
+fn is_recorded(steps: &[Transition], lease: LeaseId) -> bool {
+    steps.iter().any(|transition| match &transition.step {
+        Step::Recorded { lease: of, .. } => *of == lease,
+        _ => false,
+    })
+}
+
+// The versions of a change of records in these notes by which the attempt with this lease ended.
+fn change_since(notes: &[Note], lease: LeaseId) -> Option<(u64, u64)> {
+    for note in notes {
+        if let Note::Changed {
+            lease: of,
+            then,
+            now,
+        } = note
+        {
+            if *of == lease {
+                return Some((*then, *now));
+            }
+        }
+    }
+    None
+}
+
+// What a line comes to that asked for a range, by the reply.
+fn answer_of_range(reply: Option<&Reply>) -> Answer {
+    match reply {
+        Some(Reply::Ranged { number, result, .. }) => match result {
+            RangedResult::Good { low, high } => Answer::Ranged {
+                number: *number,
+                low: *low,
+                high: *high,
+            },
+            RangedResult::UnknownCell => Answer::NoCell,
+            RangedResult::TooFar { next } => Answer::TooFar { next: *next },
+            RangedResult::Exhausted { last } => Answer::Exhausted { last: *last },
+        },
+        _ => Answer::Waiting { lease: None },
+    }
 }
 
 // The place of the agent of a cell.
 fn place_of(cells: &[CellAgent], cell: u16) -> Option<usize>
     ensures found { IfSome result (λ n. IsPlaceOf cells.now cell n) }
+    ensures within { IfSome result (λ n. n < length cells.now) }
     ensures missing { IfNone result (Lacks cells.now cell) }
 {
     for (place, agent) in cells.iter().enumerate() {
@@ -157,6 +298,7 @@ impl Cluster {
         self.takes += 1;
         match self.post.place_of(&packet) {
             Some(at) => {
+                self.course = self.course.after(&self.post, at);
                 self.hand(alloc, disk, wire, at, now)?;
                 Ok(true)
             }
@@ -190,6 +332,255 @@ impl Cluster {
             }
         }
         Ok(())
+    }
+
+    // Sends a request, whose reply the line waits for.
+    fn request<N: Wire>(
+        &mut self,
+        alloc: Global,
+        wire: &mut N,
+        request: Request,
+    ) -> Result<(), NoMemory>
+        requires packets { ArePackets self.old.post }
+        requires bounds { IsRequest request }
+        ensures sends { OnOk result (Sends N.Wire wire.old wire.new self.old.post self.new.post (asked_packet request ∷ [])) }
+        ensures packets { OnOk result (ArePackets self.new.post) }
+        ensures handed { IsTrue N.tells → N.handed wire.new ≡ N.handed wire.old }
+        ensures later { N.faults wire.old ≤ N.faults wire.new }
+        ensures same { SendsOnly self.old self.new }
+    {
+        self.post.send(alloc, wire, Message::Ask(request), 0)?;
+        self.course = Course::awaiting(self.post.sent().len() as u64);
+        Ok(())
+    }
+
+    // A cell asks for the range with this number, or for its next. Nobody is asked for number 0.
+    fn begin_range<D: Disk, N: Wire>(
+        &mut self,
+        alloc: Global,
+        disk: &D,
+        wire: &mut N,
+        cell: u16,
+        number: Option<u64>,
+    ) -> Result<Begun, NoMemory>
+        requires ready { IsReady D.Disk disk.now self.old }
+        ensures acts { OnOk result ((now : ℕ) → Acts now (LineRange cell number) self.old self.new) }
+        ensures ready { OnOk result (IsReady D.Disk disk.now self.new) }
+        ensures agents { self.new.cells.items ≡ self.old.cells.items }
+        ensures handed { IsTrue N.tells → N.handed wire.new ≡ N.handed wire.old }
+        ensures later { N.faults wire.old ≤ N.faults wire.new }
+        ensures same { IsSameBeside self.old self.new }
+    {
+        let cells = self.cells.as_slice();
+        let Some(place) = place_of(cells, cell) else {
+            return Ok(Begun::Told(Answer::NoCell));
+        };
+        if is_zero(number) {
+            return Ok(Begun::Told(Answer::Waiting { lease: None }));
+        }
+        let request = cells[place].ask_range(number);
+        self.request(alloc, wire, request)?;
+        Ok(Begun::Range)
+    }
+
+    // A cell asks for the change that a line wants. Where it has drawn the last attempt of its epoch, nothing is asked.
+    fn begin_change<D: Disk, N: Wire>(
+        &mut self,
+        alloc: Global,
+        disk: &D,
+        wire: &mut N,
+        cell: u16,
+        line: &Line,
+        now: u64,
+    ) -> Result<Begun, ClusterError>
+        requires ready { IsReady D.Disk disk.now self.old }
+        requires cell { cell_of_change line.now ≡ Some cell }
+        ensures acts { OnOk result (Acts now line.now self.old self.new) }
+        ensures ready { OnOk result (IsReady D.Disk disk.now self.new) }
+        ensures end { IfErr result (λ e. e ≡ ClusterError.Memory) }
+        ensures handed { IsTrue N.tells → N.handed wire.new ≡ N.handed wire.old }
+        ensures later { N.faults wire.old ≤ N.faults wire.new }
+        ensures same { IsSameBeside self.old self.new }
+    {
+        let cells = self.cells.as_slice();
+        let Some(place) = place_of(cells, cell) else {
+            return Ok(Begun::Told(Answer::NoCell));
+        };
+        if cells[place].drawn() >= GREATEST_ATTEMPT {
+            return Ok(Begun::Told(Answer::Waiting { lease: None }));
+        }
+        let Some(change) = change_wanted(alloc, line, cells[place].store().tree())? else {
+            return Ok(Begun::Told(Answer::NoCell));
+        };
+        match self.cells[place].ask_change(alloc, change, now) {
+            Ok(request) => {
+                let begun = begun_by(&request);
+                self.request(alloc, wire, request)?;
+                Ok(begun)
+            }
+            Err(rule) => Ok(Begun::Told(refused(rule)?)),
+        }
+    }
+
+    // A cell begins a reconciliation: its attempts that are due end, and what it asks is sent.
+    fn begin_reconcile<D: Disk, N: Wire>(
+        &mut self,
+        alloc: Global,
+        disk: &D,
+        wire: &mut N,
+        cell: u16,
+        now: u64,
+    ) -> Result<Begun, NoMemory>
+        requires ready { IsReady D.Disk disk.now self.old }
+        ensures acts { OnOk result (Acts now (Reconcile cell) self.old self.new) }
+        ensures ready { OnOk result (IsReady D.Disk disk.now self.new) }
+        ensures handed { IsTrue N.tells → N.handed wire.new ≡ N.handed wire.old }
+        ensures later { N.faults wire.old ≤ N.faults wire.new }
+        ensures same { IsSameBeside self.old self.new }
+    {
+        let Some(place) = place_of(self.cells.as_slice(), cell) else {
+            return Ok(Begun::Told(Answer::NoCell));
+        };
+        let agent = &mut self.cells[place];
+        let requests = agent.ask_reconcile(alloc)?;
+        end_due(agent, &mut self.notes, now)?;
+        self.post.send_requests(alloc, wire, requests.into_vec())?;
+        self.course = Course::awaiting(self.post.sent().len() as u64);
+        Ok(Begun::Reconciles)
+    }
+
+    // Arms a loss, puts a packet again, or lets the clock go on, where a line says so; another line does nothing of itself.
+    fn begin_on_wire<N: Wire>(
+        &mut self,
+        alloc: Global,
+        wire: &mut N,
+        line: &Line,
+    ) -> Result<Begun, NoMemory>
+        requires packets { ArePackets self.old.post }
+        ensures same { IsSameButWire self.old self.new }
+        ensures handed { IsTrue N.tells → N.handed wire.new ≡ N.handed wire.old }
+        ensures later { N.faults wire.old ≤ N.faults wire.new }
+    {
+        match line {
+            Line::Lose { number } => {
+                self.post.lose(*number)?;
+                Ok(Begun::Told(Answer::Armed))
+            }
+            Line::Repeat { tag } => self.begin_repeat(alloc, wire, *tag),
+            Line::Wait { seconds } => {
+                self.waited = self.waited.saturating_add(*seconds);
+                Ok(Begun::Told(Answer::Waited))
+            }
+            _ => Ok(Begun::Told(Answer::NoRule)),
+        }
+    }
+
+    // The packet with this tag is put again, if one has it.
+    fn begin_repeat<N: Wire>(
+        &mut self,
+        alloc: Global,
+        wire: &mut N,
+        tag: u64,
+    ) -> Result<Begun, NoMemory>
+        requires packets { ArePackets self.old.post }
+        ensures same { IsSameButWire self.old self.new }
+        ensures handed { IsTrue N.tells → N.handed wire.new ≡ N.handed wire.old }
+        ensures later { N.faults wire.old ≤ N.faults wire.new }
+    {
+        if tag == 0 {
+            return Ok(Begun::Told(Answer::NoPacket));
+        }
+        let place = tag - 1;
+        if place >= self.post.sent().len() as u64 {
+            return Ok(Begun::Told(Answer::NoPacket));
+        }
+        self.post.repeat(alloc, wire, place as usize)?;
+        Ok(Begun::Told(Answer::Repeated { tag }))
+    }
+
+    // The event of a line itself.
+    fn begin<D: Disk, N: Wire>(
+        &mut self,
+        alloc: Global,
+        disk: &D,
+        wire: &mut N,
+        line: &Line,
+        now: u64,
+    ) -> Result<Begun, ClusterError>
+        requires ready { IsReady D.Disk disk.now self.old }
+        ensures acts { OnOk result (Acts now line.now self.old self.new) }
+        ensures ready { OnOk result (IsReady D.Disk disk.now self.new) }
+        ensures end { IfErr result (λ e. e ≡ ClusterError.Memory) }
+        ensures handed { IsTrue N.tells → N.handed wire.new ≡ N.handed wire.old }
+        ensures later { N.faults wire.old ≤ N.faults wire.new }
+        ensures same { IsSameBeside self.old self.new }
+    {
+        if let Some(cell) = cell_of_change(line) {
+            return self.begin_change(alloc, disk, wire, cell, line, now);
+        }
+        match line {
+            Line::Range { cell, number } => {
+                Ok(self.begin_range(alloc, disk, wire, *cell, *number)?)
+            }
+            Line::Reconcile { cell } => Ok(self.begin_reconcile(alloc, disk, wire, *cell, now)?),
+            _ => Ok(self.begin_on_wire(alloc, wire, line)?),
+        }
+    }
+
+    // The moment of a line, by this one of the clock.
+    fn moment(&self, now: u64) -> u64
+        ensures { result ≡ moment_of self.now now }
+    {
+        now.saturating_add(self.waited)
+    }
+
+    // How a change with this lease ended, by what was traced and noted behind these places.
+    fn answer_change(
+        &self,
+        alloc: Global,
+        lease: LeaseId,
+        steps: usize,
+        notes: usize,
+    ) -> Result<Answer, NoMemory> {
+        let waiting = Answer::Waiting { lease: Some(lease) };
+        match self.course.reply(&self.post) {
+            None => Ok(waiting),
+            Some(Reply::Begun {
+                result: BegunResult::Denied { denial },
+                ..
+            }) => Ok(Answer::Denied {
+                lease,
+                denial: copy_of_denial(alloc, denial)?,
+            }),
+            Some(_) => {
+                if is_recorded(behind(self.trace.as_slice(), steps), lease) {
+                    return Ok(Answer::Accepted { lease });
+                }
+                match change_since(behind(self.notes.as_slice(), notes), lease) {
+                    Some((then, now)) => Ok(Answer::Changed { lease, then, now }),
+                    None => Ok(waiting),
+                }
+            }
+        }
+    }
+
+    // What a line comes to, by what its event came to and by what was taken since.
+    fn answer(
+        &self,
+        alloc: Global,
+        begun: Begun,
+        steps: usize,
+        notes: usize,
+    ) -> Result<Answer, NoMemory> {
+        match begun {
+            Begun::Told(answer) => Ok(answer),
+            Begun::Asked(lease) => self.answer_change(alloc, lease, steps, notes),
+            Begun::Range => Ok(answer_of_range(self.course.reply(&self.post))),
+            Begun::Reconciles => match self.course.reply(&self.post) {
+                Some(_) => Ok(Answer::Reconciled),
+                None => Ok(Answer::Waiting { lease: None }),
+            },
+        }
     }
 
     /// The transitions, in order.
@@ -267,18 +658,21 @@ impl Cluster {
     ) -> Result<Answer, ClusterError>
         requires ready { IsReady D.Disk disk.old self.old }
         requires takes { self.old.takes < MOST_TAKES }
-        requires drawn { DrewFewer GREATEST_ATTEMPT self.old }
         requires built { IsBuilt line.now }
         ensures follows { OnOk result
             (Follows D.Disk N.Wire now line.now (moment self.old disk.old wire.old) (moment self.new disk.new wire.new)) }
         ensures ready { OnOk result (IsReady D.Disk disk.new self.new) }
         ensures registry { self.new.registry ≡ self.old.registry }
         ensures takes { OnOk result (self.new.takes ≤ self.old.takes + TAKES_A_LINE) }
-        ensures drawn { OnOk result ((most : ℕ) → DrewFewer most self.old → DrewFewer (most + 1) self.new) }
-        ensures grows { GoesOn self.old self.new }
         ensures end { IsEndOf D.Disk disk.old disk.new result }
         ensures later { (D.faults disk.old ≤ D.faults disk.new) × (N.faults wire.old ≤ N.faults wire.new) }
     {
-        Err(ClusterError::Memory)
+        let now = self.moment(now);
+        let steps = self.trace.len();
+        let notes = self.notes.len();
+        self.course = Course::idle();
+        let begun = self.begin(alloc, disk, wire, line, now)?;
+        self.take_all(alloc, disk, wire, now)?;
+        Ok(self.answer(alloc, begun, steps, notes)?)
     }
 }

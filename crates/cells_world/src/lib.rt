@@ -2,6 +2,7 @@
 #![tactic(auto)]
 
 mod cluster;
+mod course;
 mod fault;
 mod hear;
 mod limits;

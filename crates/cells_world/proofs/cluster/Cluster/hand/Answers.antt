@@ -74,6 +74,7 @@ returns-in_default-clause-hands g c = λ p at_p start w order is_in. (
       notes = c.reserve-2.new.self;
       takes = c.args.self.now.takes;
       waited = c.args.self.now.waited;
+      course = c.args.self.now.course;
     } in
     let message_is : p.message ≡ answer c.in-Answer.reply = carries old.post c.args.at c.index-sent-at.result c.requires.place (c.index-sent-at.is ∙ ap (λ xs. get_or xs c.args.at c.index-sent-at.result) c.sent.ensures) p at_p (AsAnswer c.in-Answer.reply) (sym c.message.ensures ∙ c.in-Answer.is) in
     subst (λ m. Leads g.D.Disk w (after_message old.registry (c.args.at + 1) m w) (moment old c.args.disk.now c.args.wire.now) (moment new c.args.disk.now c.args.wire.now)) (sym message_is)
@@ -123,6 +124,7 @@ returns-in_ok-send-in-Ask-clause-hands g c = λ p at_p start w order is_in. (
       notes = c.reserve-2.new.self;
       takes = c.args.self.now.takes;
       waited = c.args.self.now.waited;
+      course = c.args.self.now.course;
     } in
     let request = c.in-Ask.request in
     let due = owed old.registry (kept old.service.state) request in
@@ -145,6 +147,7 @@ returns-in_ok-send-in-Ask-clause-ready g c =
       notes = c.reserve-2.new.self;
       takes = c.args.self.now.takes;
       waited = c.args.self.now.waited;
+      course = c.args.self.now.course;
     } in
     ready_served g.D.Disk c.args.disk.now c.serve.new.disk c.args.self.now new c.requires.ready refl c.in_ok-send-in-Ask.ensures.packets refl c.in_ok-served-in-Ask.ensures.serving c.serve.ensures.others
 
@@ -160,6 +163,7 @@ returns-in_ok-send_requests-in-Answer-clause-hands g c = λ p at_p start w order
       notes = c.note.new.notes;
       takes = c.args.self.now.takes;
       waited = c.args.self.now.waited;
+      course = c.args.self.now.course;
     } in
     let reply = c.in-Answer.reply in
     let k : CellAgent = c.index_mut.result.now in
@@ -193,6 +197,7 @@ returns-in_ok-send_requests-in-Answer-clause-ready g c =
       notes = c.note.new.notes;
       takes = c.args.self.now.takes;
       waited = c.args.self.now.waited;
+      course = c.args.self.now.course;
     } in
     let k : CellAgent = c.index_mut.result.now in
     let found = c.in-Some.ensures.found in
@@ -200,7 +205,7 @@ returns-in_ok-send_requests-in-Answer-clause-ready g c =
     let there = agent_here old.cells.items c.in-Some.place k found.0 here c.index_mut.ensures.value in
     let same = c.hear.ensures.same.store.cell in
     ready_heard g.D.Disk c.args.disk.now c.hear.new.disk old new c.requires.ready refl c.in_ok-send_requests-in-Answer.ensures.packets
-      k c.hear.new.agent (at_place old.cells.items c.in-Some.place k there) same refl
+      k c.hear.new.agent (at_place old.cells.items c.in-Some.place k there) same c.hear.ensures.same.threshold refl
       (puts_set old.registry old.cells.items c.in-Some.place k c.hear.new.agent c.requires.ready.agents there same)
       (agents_set old.registry old.cells.items c.in-Some.place k c.hear.new.agent c.requires.ready.agents there same)
       c.in_ok-told-in-Answer.ensures.ready c.hear.ensures.others

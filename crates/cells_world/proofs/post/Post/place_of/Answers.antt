@@ -24,4 +24,4 @@ returns-clause-found c =
     let lt : at < length c.args.self.now.sent.items = omega (arith, within, ap length items) in
     posted c.args.self.now c.args.packet.now at c.index-sent-at.result c.requires
       (slice_get_read c.args.self.now.sent.items (length c.args.self.now.sent.items) at c.index-sent-at.result refl lt (c.index-sent-at.is ∙ ap (λ xs. get_or xs at c.index-sent-at.result) items))
-      (c.is.ensures.same (subst IsTrue (sym c.if-not-is.false) (tt {0})))
+      (c.is.ensures.same c.if-not-is.false)

@@ -1,0 +1,118 @@
+use Rattle.std.proofs.Common.{◌≡◌, ◌<◌, ◌+◌, ◌++◌, ◌∷◌, [], ⊎_elim, ℕ, List, Some, Option, get_or, length, refl, sym, ◌∙◌, ap, subst, arith}
+use Rattle.std.specs.List.{Contains, slice_get}
+use Rattle.std.specs.FinMap as map
+use Rattle.std.specs.Vec.{with_item}
+use Rattle.std.proofs.lemmas.Option.{slice_get_read}
+use Rattle.cells_base.proofs.Members.{at_place}
+use Rattle.claim_types.specs.MessageBounds.{IsRequest}
+use Rattle.claim_types.specs.declared.record.Change.{Change}
+use Rattle.claim_map.specs.State.{tree_of}
+use Rattle.claim_laws.specs.Acts.{packet_of}
+use Rattle.claim_laws.specs.Events.{asks, run}
+use Rattle.claim_laws.specs.Nodes.{Agent}
+use Rattle.cell_store.specs.Store.{stored}
+use Rattle.reconciler.specs.Agent.{kept_by, agent_after}
+use Rattle.reconciler.specs.declared.agent.CellAgent.{CellAgent}
+use Rattle.cells_world.specs.Cluster.{AreAgentsOf, PutsOne}
+use Rattle.cells_world.specs.Lines.{asks_for, own_events}
+use Rattle.cells_world.specs.Post.{packets_of}
+use Rattle.cells_world.specs.Wanted.{change_wanted}
+use Rattle.cells_world.specs.World.{IsIn}
+use Rattle.cells_world.specs.declared.cluster.Cluster.{Cluster}
+use Rattle.cells_world.proofs.Acting.{unknown}
+use Rattle.cells_world.proofs.Places.{puts_set, agents_set, same_some}
+use Rattle.cells_world.proofs.Reconcile.{ready_acted}
+use Rattle.cells_world.proofs.Wanting.{asked_in, refused_in, asked_ok, asked_err, begun, own_of_change, asks_nobody, change_in}
+use Rattle.cells_world.proofs.cluster.Cluster.begin_change.Goals as goal
+
+pub returns-in_default-clause-acts : goal.returns-in_default-clause-acts
+returns-in_default-clause-acts g c = λ start w order is_in.
+    asks_nobody c.args.self.now w c.args.self.now.registry c.args.cell c.args.now c.args.line.now c.requires.cell
+      (unknown c.args.self.now w c.args.cell is_in (λ a there. c.in_default.ensures.missing a (subst (λ xs. Contains xs a) (sym c.as_slice-cells.ensures.value) there))) is_in
+
+pub ask_change-requires-clause-agent : goal.ask_change-requires-clause-agent
+ask_change-requires-clause-agent g c =
+    let k : CellAgent = c.index_mut.result.now in
+    let within : c.in-Some.place < length c.args.self.now.cells.items = let lt = c.in-Some.ensures.within in let same = ap length c.as_slice-cells.ensures.value in omega (arith, lt, same) in
+    let there = slice_get_read c.args.self.now.cells.items (length c.args.self.now.cells.items) c.in-Some.place k refl within c.index_mut.ensures.value in
+    (c.requires.ready.cells k (at_place c.args.self.now.cells.items c.in-Some.place k there)).agent
+
+pub ask_change-requires-clause-drawn : goal.ask_change-requires-clause-drawn
+ask_change-requires-clause-drawn g c =
+    let within : c.in-Some.place < length c.args.self.now.cells.items = let lt = c.in-Some.ensures.within in let same = ap length c.as_slice-cells.ensures.value in omega (arith, lt, same) in
+    let there = slice_get_read c.args.self.now.cells.items (length c.args.self.now.cells.items) c.in-Some.place c.index_mut.result.now refl within c.index_mut.ensures.value in
+    let read = slice_get_read c.as_slice-cells.result.now (length c.as_slice-cells.result.now) c.in-Some.place c.index-cells-place.result refl c.in-Some.ensures.within c.index-cells-place.is in
+    let one : c.index-cells-place.result ≡ c.index_mut.result.now = same_some c.index-cells-place.result c.index_mut.result.now (sym read ∙ ap (λ xs. slice_get xs c.in-Some.place) c.as_slice-cells.ensures.value ∙ there) in
+    drawn_left c.index-cells-place.result c.index_mut.result.now one c.drawn.result c.drawn.ensures c.if-drawn.false
+
+pub request-requires-clause-bounds : goal.request-requires-clause-bounds
+request-requires-clause-bounds g c =
+    let k : CellAgent = c.index_mut.result.now in
+    let within : c.in-Some.place < length c.args.self.now.cells.items = let lt = c.in-Some.ensures.within in let same = ap length c.as_slice-cells.ensures.value in omega (arith, lt, same) in
+    let there = slice_get_read c.args.self.now.cells.items (length c.args.self.now.cells.items) c.in-Some.place k refl within c.index_mut.ensures.value in
+    let inside = at_place c.args.self.now.cells.items c.in-Some.place k there in
+    let asked = asked_ok _ c.in-Ok.request c.in-Ok.ensures.asked.0 in
+    subst IsRequest (sym asked.2) (begun k (c.requires.ready.cells k inside).agent (left_of g c) c.in-Some-2.change c.args.now asked.0 asked.1).0
+
+pub returns-in_ok-request-in-Ok-clause-acts : goal.returns-in_ok-request-in-Ok-clause-acts
+returns-in_ok-request-in-Ok-clause-acts g c = λ start w order is_in. (
+    let old : Cluster = c.args.self.now in
+    let k : CellAgent = c.index_mut.result.now in
+    let after : CellAgent = c.ask_change.new.self in
+    let place = c.in-Some.place in
+    let found = c.in-Some.ensures.found in
+    let within : place < length old.cells.items = let lt = c.in-Some.ensures.within in let same = ap length c.as_slice-cells.ensures.value in omega (arith, lt, same) in
+    let there = slice_get_read old.cells.items (length old.cells.items) place k refl within c.index_mut.ensures.value in
+    let inside = at_place old.cells.items place k there in
+    let i : CellAgent = c.index-cells-place.result in
+    let read = slice_get_read c.as_slice-cells.result.now (length c.as_slice-cells.result.now) place i refl c.in-Some.ensures.within c.index-cells-place.is in
+    let one : i ≡ k = same_some i k (sym read ∙ ap (λ xs. slice_get xs place) c.as_slice-cells.ensures.value ∙ there) in
+    let of_cell : k.store.cell ≡ c.args.cell = ap (λ (x : CellAgent). x.store.cell) (sym one ∙ same_some i found.0 (sym read ∙ found.1)) ∙ found.2 in
+    let asked = asked_ok _ c.in-Ok.request c.in-Ok.ensures.asked.0 in
+    let kept = c.in-Ok.ensures.asked.1 ∙ ap (λ r. agent_after r (kept_by k)) asked.1 in
+    let wanted : change_wanted c.args.line.now (tree_of w.claims k.store.cell) ≡ Some c.in-Some-2.change =
+        ap (change_wanted c.args.line.now) ((is_in.cells k inside).tree ∙ ap (λ (x : CellAgent). (stored x.store).tree) (sym one) ∙ sym (c.tree.ensures ∙ ap (λ s. (stored s).tree) c.store.ensures))
+        ∙ sym c.in_ok-change.ensures ∙ c.in-Some-2.is in
+    let puts = subst (PutsOne old.cells.items after) (sym c.request.ensures.same.cells) (puts_set old.registry old.cells.items place k after c.requires.ready.agents there c.ask_change.ensures.same.store.cell) in
+    change_in c.request.new.self w old.registry c.args.line.now c.args.cell c.args.now k.store.cell c.in-Some-2.change c.requires.cell of_cell wanted
+    (asked_in old w old.registry k c.in-Some-2.change c.args.now is_in inside (c.requires.drawn k inside) c.request.new.self after asked.0 asked.1 c.ask_change.ensures.store kept puts
+      c.request.ensures.same.service (ap (λ t. t.items) c.request.ensures.same.trace) c.request.ensures.same.takes
+      (c.in_ok-request-in-Ok.ensures.sends.sent ∙ ap (λ r. packets_of old.post ++ packet_of r ∷ []) asked.2)
+      (ap (λ t. t.items) c.request.ensures.same.notes)))
+
+pub returns-in_ok-request-in-Ok-clause-ready : goal.returns-in_ok-request-in-Ok-clause-ready
+returns-in_ok-request-in-Ok-clause-ready g c =
+    let old : Cluster = c.args.self.now in
+    let k : CellAgent = c.index_mut.result.now in
+    let after : CellAgent = c.ask_change.new.self in
+    let place = c.in-Some.place in
+    let within : place < length old.cells.items = let lt = c.in-Some.ensures.within in let same = ap length c.as_slice-cells.ensures.value in omega (arith, lt, same) in
+    let there = slice_get_read old.cells.items (length old.cells.items) place k refl within c.index_mut.ensures.value in
+    let same = c.ask_change.ensures.same.store.cell in
+    let cells = sym c.request.ensures.same.cells in
+    ready_acted g.D.Disk c.args.disk.now old c.request.new.self c.requires.ready c.request.ensures.same.registry c.in_ok-request-in-Ok.ensures.packets
+      k after (at_place old.cells.items place k there) c.ask_change.ensures.store c.ask_change.ensures.same.threshold c.ask_change.ensures.agent c.request.ensures.same.service
+      (subst (PutsOne old.cells.items after) cells (puts_set old.registry old.cells.items place k after c.requires.ready.agents there same))
+      (subst (AreAgentsOf old.registry) cells (agents_set old.registry old.cells.items place k after c.requires.ready.agents there same))
+
+pub returns-in_ok-request-in-Ok-clause-drawn : goal.returns-in_ok-request-in-Ok-clause-drawn
+returns-in_ok-request-in-Ok-clause-drawn g c = λ most few a there_a. (
+    let old : Cluster = c.args.self.now in
+    let k : CellAgent = c.index_mut.result.now in
+    let after : CellAgent = c.ask_change.new.self in
+    let place = c.in-Some.place in
+    let within : place < length old.cells.items = let lt = c.in-Some.ensures.within in let same = ap length c.as_slice-cells.ensures.value in omega (arith, lt, same) in
+    let there = slice_get_read old.cells.items (length old.cells.items) place k refl within c.index_mut.ensures.value in
+    let inside = at_place old.cells.items place k there in
+    let asked = asked_ok _ c.in-Ok.request c.in-Ok.ensures.asked.0 in
+    let one_more : after.drawn ≡ k.drawn + 1 = ap (λ (x : Agent). x.drawn) (c.in-Ok.ensures.asked.1 ∙ ap (λ r. agent_after r (kept_by k)) asked.1)
+        ∙ (begun k (c.requires.ready.cells k inside).agent (c.requires.drawn k inside) c.in-Some-2.change c.args.now asked.0 asked.1).1 in
+    let below = few k inside in
+    let puts = subst (PutsOne old.cells.items after) (sym c.request.ensures.same.cells) (puts_set old.registry old.cells.items place k after c.requires.ready.agents there c.ask_change.ensures.same.store.cell) in
+    ⊎_elim
+        (λ (is : a ≡ after). subst (λ (x : CellAgent). x.drawn < most + 1) (sym is) (omega (arith, one_more, below)))
+        (λ other. let lt = few a other.0 in omega (arith, lt))
+        (puts.each a there_a))
+
+pub returns-in-Err : goal.returns-in-Err
+returns-in-Err g c = ?

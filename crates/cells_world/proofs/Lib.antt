@@ -7,6 +7,10 @@ pub mod Places
 pub mod Asked
 pub mod Sending
 pub mod Openings
+pub mod Agents
+pub mod Configured
+pub mod Reopened
+pub mod Clusters
 pub mod Posted
 pub mod Acting
 pub mod Reconcile

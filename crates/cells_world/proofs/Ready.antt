@@ -19,7 +19,7 @@ use Rattle.cells_world.specs.declared.cluster.Cluster.{Cluster}
 
 module _ {D : Type 0} (g : Ghosts D) (d e : D) where
   -- a call on other files leaves an agent ready
-  agent_on : (file : ℕ) (a : CellAgent) → file ≢ a.store.cell → TouchesOnly g file d e → IsAgentReady g d a → IsAgentReady g e a
+  pub agent_on : (file : ℕ) (a : CellAgent) → file ≢ a.store.cell → TouchesOnly g file d e → IsAgentReady g d a → IsAgentReady g e a
   agent_on file a apart touches ready = record {
     agent = ready.agent;
     live = ready.live;

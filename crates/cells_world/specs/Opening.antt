@@ -1,10 +1,12 @@
 -- What an opening of all files comes to.
-use Rattle.std.specs.Prelude.{◌≡◌, ◌⊎◌, ℕ, IsTrue, List, [], Result, Ok, Err}
-use Rattle.std.specs.List.{Contains}
+use Rattle.std.specs.Prelude.{◌≡◌, ◌≢◌, ◌⊎◌, ℕ, IsTrue, List, [], map as list_map, Some, Result, Ok, Err}
+use Rattle.std.specs.List.{Contains, slice_get}
 use Rattle.cells_base.specs.Causes.{Rose}
 use Rattle.disk_journal.specs.declared.disk.Disk.{Ghosts}
 use Rattle.disk_journal.specs.Disk.{Image}
 use Rattle.disk_journal.specs.Effects.{FailedAt}
+use Rattle.disk_journal.specs.Moments.{Stays}
+use Rattle.claim_types.specs.declared.cell.Cell.{Cell}
 use Rattle.claim_map.specs.Registry.{Registry}
 use Rattle.claim_map.specs.State.{ClaimMap}
 use Rattle.claim_laws.specs.Facts.{IsInOrder}
@@ -18,9 +20,9 @@ use Rattle.std.specs.FinMap as map
 use Rattle.cell_store.specs.Store.{stored, IsStore, AreRowsEarlier, Rests}
 use Rattle.cell_store.specs.declared.store.CellStore.{CellStore}
 use Rattle.reconciler.specs.Kept.{kept_with}
-use Rattle.cell_store.specs.Opening.{IsOpenFault as IsCellFault}
+use Rattle.cell_store.specs.Opening.{IsOpenFault as IsCellFault, IsOpened}
 use Rattle.cell_store.specs.declared.fault.CellOpenFault.TheVariants as of_cell
-use Rattle.reconciler.specs.Agent.{kept_by}
+use Rattle.reconciler.specs.Agent.{kept_by, IsReady as IsAgentReady}
 use Rattle.reconciler.specs.declared.agent.CellAgent.{CellAgent}
 use Rattle.cells_world.specs.Post.{packets_of}
 use Rattle.cells_world.specs.World.{IsIn, IsOf}
@@ -98,3 +100,32 @@ pub record IsStoreReady {D : Type 0} (g : Ghosts D) (d : D) (cell : ℕ) (s : Ce
 -- what an agent keeps that was just opened
 abbrev pub IsIdle : CellAgent → Type 0
 IsIdle a = kept_by a ≡ kept_with (stored a.store) map.empty 0
+
+-- no two of these cells have one id
+abbrev pub AreApart : List Cell → Type 0
+AreApart cells = (n m id : ℕ) → slice_get (list_map (λ c. c.id) cells) n ≡ Some id → slice_get (list_map (λ c. c.id) cells) m ≡ Some id → n ≡ m
+
+-- one agent for each of these cells, in their order
+abbrev pub AreOf : List Cell → List CellAgent → Type 0
+AreOf cells agents = list_map (λ a. a.store.cell) agents ≡ list_map (λ c. c.id) cells
+
+-- agents that were just opened on this disk
+pub record AreNew {D : Type 0} (g : Ghosts D) (d : D) (agents : List CellAgent) : Type 0 where
+  pub ready : (a : CellAgent) → Contains agents a → IsAgentReady g d a
+  pub idle : (a : CellAgent) → Contains agents a → IsIdle a
+
+-- each may end its attempts from this age on
+abbrev pub AreToEndFrom : ℕ → List CellAgent → Type 0
+AreToEndFrom threshold agents = (a : CellAgent) → Contains agents a → a.threshold ≡ threshold
+
+-- each agent keeps what its file stood for, one epoch on
+abbrev pub AreOpened : Image → List CellAgent → Type 0
+AreOpened img agents = (a : CellAgent) → Contains agents a → IsOpened a.store.cell img a.store
+
+-- each file but those of these cells reads as before, and a crash may leave no more of it than before
+abbrev pub StaysBeside : {D : Type 0} → Ghosts D → List Cell → D → D → Type 0
+StaysBeside g cells old new = IsTrue g.tells → (q : ℕ) → ((c : Cell) → Contains cells c → c.id ≢ q) → Stays g q old new
+
+-- why the files of these cells were not all opened: that of one was not
+abbrev pub IsOneEnd : {D : Type 0} → Ghosts D → List Cell → D → D → ClusterError → Type 0
+IsOneEnd g cells old new error = (c : Cell) × Contains cells c × IsCellEnd {T = CellStore} g c.id old new (Err error)

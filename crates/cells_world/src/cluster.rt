@@ -26,6 +26,7 @@ use crate::fault::ClusterError;
 use crate::hear::hear;
 use crate::limits::TAKES_A_LINE;
 use crate::message::{Message, receiver_of};
+use crate::opening::{open_agents, open_service};
 use crate::post::Post;
 use crate::serve::serve;
 use crate::wanted::change_wanted;
@@ -615,15 +616,31 @@ impl Cluster {
     ///
     /// Errors: [`ClusterError::DiskFailed`] where it failed again; [`ClusterError::Damaged`] with what a file shows;
     /// [`ClusterError::Memory`].
-    pub fn open<D: Disk>(alloc: Global, disk: &mut D, registry: Registry) -> Result<Cluster, ClusterError>
+    pub fn open<D: Disk>(
+        alloc: Global,
+        disk: &mut D,
+        registry: Registry,
+    ) -> Result<Cluster, ClusterError>
         ensures registry { IfOk result (λ c. c.registry ≡ registry) }
-        ensures opens { IsTrue D.tells → StandsStill D.Disk disk.old disk.new → IfOk result (Opens registry (D.seen disk.old)) }
+        ensures opens { IsTrue D.tells → StandsStill D.Disk disk.old disk.new →
+            IfOk result (Opens registry (D.seen disk.old)) }
         ensures ready { IfOk result (IsReady D.Disk disk.new) }
         ensures new { IfOk result IsNew }
         ensures end { IsOpenEnd D.Disk registry disk.old disk.new result }
         ensures later { D.faults disk.old ≤ D.faults disk.new }
     {
-        Err(ClusterError::Memory)
+        let service = open_service(alloc, disk, &registry)?;
+        let cells = open_agents(alloc, disk, registry.cells(), registry.threshold())?;
+        Ok(Cluster {
+            registry,
+            service,
+            cells,
+            post: Post::new(alloc),
+            trace: Vec::new(alloc),
+            notes: Vec::new(alloc),
+            takes: 0,
+            waited: 0,
+        })
     }
 
     /// Does a line of a script at this moment of the clock, in seconds: the line's own event first, and then it takes packets

@@ -1,5 +1,5 @@
 //! The files of an installation are opened.
-ghost use Rattle.std.specs.Prelude.{◌≡◌, ◌≤◌, ◌<◌, ℕ, IsTrue, IfOk, OnOk, length};
+ghost use Rattle.std.specs.Prelude.{◌≡◌, ◌≤◌, ◌<◌, ℕ, IsTrue, IfOk, IfErr, OnOk, length};
 ghost use Rattle.std.specs.List.{Contains, slice_get};
 ghost use Rattle.claim_types.specs.Bounds.{IsCell};
 ghost use Rattle.claim_types.specs.declared.cell.Cell.{Cell as TheCell};
@@ -11,6 +11,7 @@ ghost use Rattle.cell_store.specs.Opening.{IsOpened};
 ghost use Rattle.disk_journal.specs.Entries.{Stands, TouchesOnly};
 ghost use Rattle.reconciler.specs.Agent.{IsReady as IsAgentReady};
 ghost use Rattle.cells_world.specs.Opening.{IsCellEnd, IsIdle, IsServiceEnd, IsStoreReady, StandsStill};
+ghost use Rattle.cells_world.specs.Opening.{AreApart, AreNew, AreOf, AreOpened, AreToEndFrom, IsOneEnd, StaysBeside};
 ghost use Rattle.cells_world.specs.Faults.{fault_of_service_open, fault_of_cell_open};
 ghost use Rattle.cells_world.specs.Serving.{IsServing};
 
@@ -92,14 +93,11 @@ pub fn open_service<D: Disk>(
 }
 
 // Opens the file of a cell. Where that failed it is tried once more.
-fn open_store<D: Disk>(
-    alloc: Global,
-    disk: &mut D,
-    cell: u16,
-) -> Result<CellStore, ClusterError>
+fn open_store<D: Disk>(alloc: Global, disk: &mut D, cell: u16) -> Result<CellStore, ClusterError>
     requires { IsCell cell }
     ensures ready { IfOk result (IsStoreReady D.Disk disk.new cell) }
-    ensures opened { IsTrue D.tells → StandsStill D.Disk disk.old disk.new → IfOk result (IsOpened cell (D.seen disk.old)) }
+    ensures opened { IsTrue D.tells → StandsStill D.Disk disk.old disk.new →
+        IfOk result (IsOpened cell (D.seen disk.old)) }
     ensures end { IsCellEnd D.Disk cell disk.old disk.new result }
     ensures others { TouchesOnly D.Disk cell disk.old disk.new }
 {
@@ -123,12 +121,41 @@ pub fn open_agent<D: Disk>(
 ) -> Result<CellAgent, ClusterError>
     requires { IsCell cell }
     ensures cell { IfOk result (λ a. a.store.cell ≡ cell) }
+    ensures threshold { IfOk result (λ a. a.threshold ≡ threshold) }
     ensures ready { IfOk result (IsAgentReady D.Disk disk.new) }
     ensures idle { IfOk result IsIdle }
-    ensures opened { IsTrue D.tells → StandsStill D.Disk disk.old disk.new → IfOk result (λ a. IsOpened cell (D.seen disk.old) a.store) }
+    ensures opened { IsTrue D.tells → StandsStill D.Disk disk.old disk.new →
+        IfOk result (λ a. IsOpened cell (D.seen disk.old) a.store) }
     ensures end { IsCellEnd D.Disk cell disk.old disk.new result }
     ensures others { TouchesOnly D.Disk cell disk.old disk.new }
 {
     let store = open_store(alloc, disk, cell)?;
     Ok(CellAgent::new(alloc, store, threshold))
+}
+
+/// Opens the files of these cells in order, each to its agent.
+pub fn open_agents<D: Disk>(
+    alloc: Global,
+    disk: &mut D,
+    cells: &[Cell],
+    threshold: u64,
+) -> Result<Vec<CellAgent>, ClusterError>
+    requires ids { (c : TheCell) → Contains cells.now c → IsCell c.id }
+    requires apart { AreApart cells.now }
+    ensures cells { IfOk result (λ agents. AreOf cells.now agents.items) }
+    ensures new { IfOk result (λ agents. AreNew D.Disk disk.new agents.items) }
+    ensures thresholds { IfOk result (λ agents. AreToEndFrom threshold agents.items) }
+    ensures opened { IsTrue D.tells → StandsStill D.Disk disk.old disk.new →
+        IfOk result (λ agents. AreOpened (D.seen disk.old) agents.items) }
+    ensures end { IfErr result (IsOneEnd D.Disk cells.now disk.old disk.new) }
+    ensures others { StaysBeside D.Disk cells.now disk.old disk.new }
+    ensures later { D.faults disk.old ≤ D.faults disk.new }
+{
+    let mut agents = Vec::new(alloc);
+    for cell in cells {
+        agents.reserve(1)?;
+        let agent = open_agent(alloc, disk, cell.id, threshold)?;
+        agents.push_reserved(agent);
+    }
+    Ok(agents)
 }

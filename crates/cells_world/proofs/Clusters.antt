@@ -1,0 +1,55 @@
+-- The service's file is opened, and then those of the cells.
+use Rattle.std.proofs.Common.{◌≡◌, inr, ℕ, ◌≤◌, true, IsTrue, List, sym, subst, arith}
+use Rattle.std.specs.Prelude.{Err}
+use Rattle.std.specs.List.{Contains}
+use Rattle.claim_types.specs.declared.cell.Cell.{Cell}
+use Rattle.claim_map.specs.Registry.{Registry}
+use Rattle.cell_registry.specs.Bounds.{is_registry}
+use Rattle.claim_service.proofs.Configured.{legal_cells}
+use Rattle.claim_service.specs.declared.limits.TheConstants.{SERVICE_FILE}
+use Rattle.disk_journal.specs.declared.disk.Disk.{Ghosts}
+use Rattle.disk_journal.specs.Entries.{TouchesOnly}
+use Rattle.reconciler.specs.declared.agent.CellAgent.{CellAgent}
+use Rattle.cells_world.specs.Cluster.{AreAgentsOf, IsReady}
+use Rattle.cells_world.specs.Opening.{AreNew, AreOf, AreOpened, IsOneEnd, IsOpenEnd, ShowsOfCell, StandsStill, StaysBeside}
+use Rattle.cells_world.specs.Post.{ArePackets}
+use Rattle.cells_world.specs.Serving.{IsServing}
+use Rattle.cells_world.specs.declared.cluster.Cluster.{Cluster}
+use Rattle.cells_world.specs.declared.fault.ClusterError.{ClusterError}
+use Rattle.cells_world.specs.declared.fault.ClusterError.TheVariants.{DiskFailed, Memory, Damaged}
+use Rattle.cells_world.proofs.Agents.{opened_same, serves_there, shows_same}
+use Rattle.cells_world.proofs.Configured.{agents_of, apart_of}
+
+-- a cell's file is not the service's
+pub numbered : (registry : Registry) → is_registry registry ≡ true → (c : Cell) → Contains registry.cells c → 1 ≤ c.id
+numbered registry legal c there = ((legal_cells registry legal).ids c there).0
+
+module _ {D : Type 0} (g : Ghosts D) (registry : Registry) (legal : is_registry registry ≡ true) (old mid new : D) (touches : TouchesOnly g SERVICE_FILE old mid) where
+  still_then : StandsStill g old new → StandsStill g mid new
+  still_then still rose = let on = touches.counts.later in still (omega (arith, rose, on))
+
+  pub still_first : g.faults mid ≤ g.faults new → StandsStill g old new → StandsStill g old mid
+  still_first on still rose = still (omega (arith, rose, on))
+
+  unread : IsTrue g.tells → (cell : ℕ) → 1 ≤ cell → g.seen mid cell ≡ g.seen old cell
+  unread tells cell one = (touches.elsewhere tells cell (λ own. omega (arith, own, one))).reads
+
+  pub cells_end : (error : ClusterError) → IsOneEnd g registry.cells mid new error → IsOpenEnd {T = Cluster} g registry old new (Err error)
+  cells_end (DiskFailed file) ends = let at = ends.2.1 in ((let rose = at.0 in let on = touches.counts.later in omega (arith, rose, on)), at.1)
+  cells_end Memory ends = tt
+  cells_end (Damaged file fault) ends = λ tells still. inr (subst (λ q. ShowsOfCell q (g.seen old) fault) (sym ends.2.0)
+      (shows_same ends.0.id (g.seen old) (g.seen mid) fault (unread tells ends.0.id (numbered registry legal ends.0 ends.1)) (ends.2.1 tells (still_then still))))
+
+  module _ (agents : List CellAgent) (are_of : AreOf registry.cells agents) (are_new : AreNew g new agents) where
+    pub opened_all : (IsTrue g.tells → StandsStill g mid new → AreOpened (g.seen mid) agents) → IsTrue g.tells → StandsStill g old new → AreOpened (g.seen old) agents
+    opened_all opened tells still a there =
+        opened_same a.store.cell (g.seen old) (g.seen mid) a.store (unread tells a.store.cell (are_new.ready a there).agent.store.cell.0) (opened tells (still_then still) a there)
+
+    pub ready_all : (c : Cluster) → c.registry ≡ registry → c.cells.items ≡ agents → IsServing g mid c.service → StaysBeside g registry.cells mid new → ArePackets c.post → IsReady g new c
+    ready_all c same_registry same_cells serving others packets = record {
+      configured = subst Rattle.claim_map.specs.Bounds.AreCells (sym same_registry) (legal_cells registry legal);
+      agents = subst (λ r. AreAgentsOf r c.cells.items) (sym same_registry) (subst (AreAgentsOf registry) (sym same_cells) (agents_of registry agents are_of (apart_of registry legal)));
+      service = serves_there g registry.cells mid new c.service (numbered registry legal) others serving;
+      cells = λ a there. are_new.ready a (subst (λ l. Contains l a) same_cells there);
+      packets = packets;
+    }

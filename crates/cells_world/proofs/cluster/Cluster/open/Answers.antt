@@ -1,0 +1,82 @@
+use Rattle.std.proofs.Common.{refl, sym, ap, subst}
+use Rattle.std.proofs.lemmas.Result.{err_from_is_err_and}
+use Rattle.claim_laws.specs.Nodes.{Agent}
+use Rattle.cells_world.specs.Opening.{AreApart, AreOf, IsNew, IsOneEnd, StaysBeside}
+use Rattle.cells_world.specs.declared.cluster.Cluster.{Cluster}
+use Rattle.cells_world.proofs.Clusters.{cells_end, opened_all, ready_all, still_first}
+use Rattle.cells_world.proofs.Configured.{agent_known, agents_of, apart_of}
+use Rattle.cells_world.proofs.Reopened.{opens_to}
+use Rattle.cells_world.proofs.cluster.Cluster.open.Goals as goal
+
+pub open_agents-requires-clause-apart : goal.open_agents-requires-clause-apart
+open_agents-requires-clause-apart g c = subst AreApart (sym c.cells.ensures.value) (apart_of c.args.registry c.cells.ensures.legal)
+
+pub returns-in_err-cells-clause-end : goal.returns-in_err-cells-clause-end
+returns-in_err-cells-clause-end g c =
+    let p = err_from_is_err_and c.from_residual-in_err-cells.result c.from_residual-in_err-cells.ensures.1 in
+    rw (p.1, p.2)
+    (cells_end g.D.Disk c.args.registry c.cells.ensures.legal c.args.disk.now c.open_service.new.disk c.open_agents.new.disk c.open_service.ensures.others
+    c.in_err-cells.field-0.0
+    (subst (λ l. IsOneEnd g.D.Disk l c.open_service.new.disk c.open_agents.new.disk c.in_err-cells.field-0.0) c.cells.ensures.value c.in_err-cells.ensures.end))
+
+pub returns-clause-ready : goal.returns-clause-ready
+returns-clause-ready g c =
+    let opened : Cluster = record {
+      registry = c.args.registry;
+      service = c.in_ok-service.service;
+      cells = c.in_ok-cells.cells;
+      post = c.new.result;
+      trace = c.new-2.result;
+      notes = c.new-3.result;
+      takes = 0;
+      waited = 0;
+    } in
+    ready_all g.D.Disk c.args.registry c.cells.ensures.legal c.args.disk.now c.open_service.new.disk c.open_agents.new.disk c.open_service.ensures.others
+    c.in_ok-cells.cells.items (subst (λ l. AreOf l c.in_ok-cells.cells.items) c.cells.ensures.value c.in_ok-cells.ensures.cells) c.in_ok-cells.ensures.new
+    opened refl refl c.in_ok-service.ensures.serving
+    (subst (λ l. StaysBeside g.D.Disk l c.open_service.new.disk c.open_agents.new.disk) c.cells.ensures.value c.open_agents.ensures.others)
+    c.new.ensures.packets
+
+pub returns-clause-new : goal.returns-clause-new
+returns-clause-new g c = record {
+  sent = c.new.ensures.sent;
+  armed = c.new.ensures.armed;
+  trace = c.new-2.ensures.items;
+  notes = c.new-3.ensures.items;
+  takes = refl;
+  waited = refl;
+  drawn = λ a there. ap (λ (x : Agent). x.drawn) (c.in_ok-cells.ensures.new.idle a there);
+}
+
+-- each node is opened again
+pub returns-clause-opens : goal.returns-clause-opens
+returns-clause-opens g c = λ tells still start w order configured is_of. (
+    let opened : Cluster = record {
+      registry = c.args.registry;
+      service = c.in_ok-service.service;
+      cells = c.in_ok-cells.cells;
+      post = c.new.result;
+      trace = c.new-2.result;
+      notes = c.new-3.result;
+      takes = 0;
+      waited = 0;
+    } in
+    let is_new : IsNew opened = record {
+      sent = c.new.ensures.sent;
+      armed = c.new.ensures.armed;
+      trace = c.new-2.ensures.items;
+      notes = c.new-3.ensures.items;
+      takes = refl;
+      waited = refl;
+      drawn = λ a there. ap (λ (x : Agent). x.drawn) (c.in_ok-cells.ensures.new.idle a there);
+    } in
+    let are_of = subst (λ l. AreOf l c.in_ok-cells.cells.items) c.cells.ensures.value c.in_ok-cells.ensures.cells in
+    opens_to c.args.registry (g.D.Disk.seen c.args.disk.now) opened
+    (agents_of c.args.registry c.in_ok-cells.cells.items are_of (apart_of c.args.registry c.cells.ensures.legal))
+    (agent_known c.args.registry c.in_ok-cells.cells.items are_of)
+    (λ a there. (c.in_ok-cells.ensures.new.ready a there).agent.store)
+    c.in_ok-cells.ensures.new.idle is_new
+    (c.in_ok-service.ensures.stands tells (still_first g.D.Disk c.args.registry c.cells.ensures.legal c.args.disk.now c.open_service.new.disk c.open_agents.new.disk c.open_service.ensures.others c.open_agents.ensures.later still))
+    (opened_all g.D.Disk c.args.registry c.cells.ensures.legal c.args.disk.now c.open_service.new.disk c.open_agents.new.disk c.open_service.ensures.others
+    c.in_ok-cells.cells.items are_of c.in_ok-cells.ensures.new c.in_ok-cells.ensures.opened tells still)
+    w configured is_of)

@@ -21,6 +21,7 @@
 
 mod clock;
 mod memory;
+mod memory_wire;
 mod pieces;
 pub mod real;
 mod sink;
@@ -31,6 +32,7 @@ mod wire;
 
 pub use clock::{Clock, FixedClock};
 pub use memory::{BytesSink, BytesSource};
+pub use memory_wire::{Disturbance, DisturbanceKind, MemoryWire};
 pub use pieces::{read_behind, read_front, write_all};
 pub use sink::{Sink, SinkFailed};
 pub use source::{Source, SourceFailed};

@@ -2,8 +2,14 @@
 #![tactic(auto)]
 
 mod answer;
+mod asks;
+mod changes;
 mod limits;
 mod line;
+mod nodes;
+mod numbers;
+mod read;
+mod words;
 
 pub use answer::Answer;
 pub use limits::{GREATEST_COUNT, LINE_BYTES};

@@ -9,3 +9,5 @@ pub mod Bounds
 pub mod Installed
 pub mod Making
 pub mod Distinct
+pub mod Telling
+pub mod Went

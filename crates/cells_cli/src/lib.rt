@@ -25,13 +25,15 @@ mod command;
 mod config;
 mod init;
 mod lines;
+mod reading;
 mod replay;
-#[cfg(test)]
-mod run_tests;
+mod report;
 mod service;
 mod status;
+mod tellable;
 #[cfg(test)]
 mod tests;
+mod up;
 
 pub use command::{Command, finish, run};
 pub use config::{CONFIG_BYTES, ConfigFault};

@@ -1,7 +1,7 @@
 use Rattle.std.proofs.Common.{◌≡◌, IfOk, Option, ap, ◌∙◌, subst}
 use Rattle.cells_script.specs.declared.line.Line.{Line}
 use Rattle.cells_script.specs.Words.{after_three_words}
-use Rattle.cells_script.proofs.Parts.{all_words, line_is}
+use Rattle.cells_script.proofs.WordsRead.{all_words, line_is}
 use Rattle.cells_script.proofs.read.line_in.Goals as goal
 
 pub line_with-requires-clause-words : goal.line_with-requires-clause-words

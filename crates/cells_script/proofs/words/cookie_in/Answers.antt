@@ -1,7 +1,7 @@
 use Rattle.std.proofs.Common.{sym, ap, ◌∙◌, subst}
 use Rattle.cells_script.specs.Bounds.{IsRest}
 use Rattle.cells_script.specs.Words.{after_word}
-use Rattle.cells_script.proofs.Parts.{rest_is}
+use Rattle.cells_script.proofs.WordsRead.{rest_is}
 use Rattle.cells_script.proofs.words.cookie_in.Goals as goal
 
 pub returns : goal.returns

@@ -1,5 +1,5 @@
 use Rattle.std.proofs.Common.{sym, ◌∙◌}
-use Rattle.cells_script.proofs.Parts.{utf8_is}
+use Rattle.cells_script.proofs.WordsRead.{utf8_is}
 use Rattle.cells_script.proofs.line.Line.read.Goals as goal
 
 pub unreachable-requires : goal.unreachable-requires

@@ -147,6 +147,7 @@ impl<W: Write> Sink for StdSink<W> {
 }
 
 /// The system's clock: the seconds since the start of 1970, and 0 before it or where no clock can be read.
+#[derive(Drop)]
 pub struct SystemClock<'a, R: rt::Clock> {
     rt: &'a R,
 }

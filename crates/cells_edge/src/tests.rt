@@ -1,6 +1,10 @@
-use crate::real::{FileSource, StdSink, StdSource};
-use crate::{BytesSink, BytesSource, Sink, SinkFailed, Source, SourceFailed, write_all};
+use crate::real::{FileSource, StdSink, StdSource, SystemClock};
+use crate::{
+    BytesSink, BytesSource, Clock, Disturbance, DisturbanceKind, FixedClock, Leg, MemoryWire,
+    Packet, Sink, SinkFailed, Source, SourceFailed, Wire, WireError, write_all,
+};
 use cells_base::Text;
+use std::alloc::Global;
 use std::test::Fail;
 
 fn read_once<S: Source>(source: &mut S, buf: &mut [u8]) -> Result<usize, SourceFailed> {
@@ -71,4 +75,95 @@ fn a_file_is_read_and_a_missing_one_is_a_fault(rt: HostRuntime) {
     let mut missing = FileSource::new(&rt, "no-such-folder/cells.toml");
     assert_eq!(rt; read_once(&mut missing, &mut room), Err(SourceFailed));
     assert_eq!(rt; read_once(&mut missing, &mut room), Err(SourceFailed));
+}
+
+fn seconds<C: Clock>(clock: &mut C) -> u64 {
+    clock.now()
+}
+
+#[test]
+fn clocks(rt: HostRuntime) {
+    let mut fixed = FixedClock::new(7);
+    assert_eq!(rt; seconds(&mut fixed), 7);
+    assert_eq!(rt; seconds(&mut fixed), 7);
+    // The system's clock stands behind the year 2001.
+    assert!(rt; seconds(&mut SystemClock::new(&rt)) > 1_000_000_000);
+}
+
+#[test]
+fn a_packet_is_handed_over_as_it_was_put(rt: HostRuntime) -> Result<(), Fail> {
+    let alloc = rt.alloc();
+    let leg = Leg {
+        to: 1000,
+        tag: 3,
+        answers: 2,
+    };
+    let mut wire = MemoryWire::new(alloc, Vec::new(alloc));
+    assert_eq!(rt; wire.put(alloc, leg, b"reply"), Ok(()));
+    let bytes = Text::from_slice(alloc, b"reply")?;
+    assert_eq!(rt; wire.take(alloc), Ok(Some(Packet { leg, bytes })));
+    assert_eq!(rt; wire.take(alloc), Ok(None));
+    assert_eq!(rt; wire.calls(), 3);
+    Ok(())
+}
+
+// One byte is put on a wire, and `!` stands where that failed.
+fn put_byte<N: Wire>(
+    wire: &mut N,
+    alloc: Global,
+    byte: u8,
+    seen: &mut Vec<u8>,
+) -> Result<(), Fail> {
+    let leg = Leg {
+        to: 0,
+        tag: 1,
+        answers: 0,
+    };
+    if wire.put(alloc, leg, &[byte]).is_err() {
+        seen.push(b'!')?;
+    }
+    Ok(())
+}
+
+// What a take gives, `!` where it failed and `.` where there is nothing.
+fn take_bytes<N: Wire>(wire: &mut N, alloc: Global, seen: &mut Vec<u8>) -> Result<(), Fail> {
+    match wire.take(alloc) {
+        Ok(Some(packet)) => seen.extend_from_slice(packet.bytes.as_slice())?,
+        Ok(None) => seen.push(b'.')?,
+        Err(_) => seen.push(b'!')?,
+    }
+    Ok(())
+}
+
+// Calls 1 to 3 put `a`, `b` and `c`, and calls 4 to 8 are takes.
+fn seen_with(alloc: Global, call: u64, kind: DisturbanceKind) -> Result<Vec<u8>, Fail> {
+    let mut wire = MemoryWire::new(alloc, Vec::from_array(alloc, [Disturbance { call, kind }])?);
+    let mut seen = Vec::new(alloc);
+    for byte in b"abc" {
+        put_byte(&mut wire, alloc, *byte, &mut seen)?;
+    }
+    for _ in 0..5 {
+        take_bytes(&mut wire, alloc, &mut seen)?;
+    }
+    Ok(seen)
+}
+
+#[test]
+fn disturbances(rt: HostRuntime) -> Result<(), Fail> {
+    let table = [
+        (9, DisturbanceKind::Lose, b"abc..".as_slice()),
+        (1, DisturbanceKind::Lose, b"bc...".as_slice()),
+        (3, DisturbanceKind::Repeat, b"abcc.".as_slice()),
+        (1, DisturbanceKind::Swap, b"abc..".as_slice()),
+        (2, DisturbanceKind::Swap, b"bac..".as_slice()),
+        (3, DisturbanceKind::Swap, b"acb..".as_slice()),
+        (2, DisturbanceKind::Fail, b"!ac...".as_slice()),
+        (5, DisturbanceKind::Fail, b"a!bc.".as_slice()),
+        (7, DisturbanceKind::Fail, b"abc!.".as_slice()),
+        (4, DisturbanceKind::Swap, b"abc..".as_slice()),
+    ];
+    for (call, kind, expected) in table {
+        assert_eq!(rt; seen_with(rt.alloc(), call, kind)?.as_slice(), expected);
+    }
+    Ok(())
 }

@@ -9,5 +9,9 @@ pub mod Bounds
 pub mod Installed
 pub mod Making
 pub mod Distinct
+pub mod Written
 pub mod Telling
 pub mod Went
+pub mod Doing
+pub mod Scripted
+pub mod Causes

@@ -6,7 +6,9 @@ use Rattle.disk_journal.specs.Disk.{Image}
 use Rattle.disk_journal.proofs.Moments.{OnlyNow, started, joins}
 use Rattle.cells_edge.specs.declared.wire.Packet.{Packet as WirePacket}
 use Rattle.cells_edge.specs.declared.wire.Wire.{Ghosts as WireGhosts}
+use Rattle.claim_map.specs.Bounds.{AreCells}
 use Rattle.claim_map.specs.Registry.{Registry}
+use Rattle.claim_map.proofs.Configured.{wide_of}
 use Rattle.claim_map.specs.State.{ClaimMap}
 use Rattle.claim_types.specs.declared.rule.Note.{Note}
 use Rattle.claim_types.specs.declared.step.Transition.{Transition}
@@ -68,8 +70,8 @@ module _ {D N : Type 0} (g : Ghosts D) (n : WireGhosts N) where
   }
 
   -- lines, and then others
-  pub went_on : (a b c : At D N) (items more : List Item) → Went g n a items b → Went g n b more c → Went g n a (items ++ more) c
-  went_on a b c items more first second = record {
+  pub went_on : (a b c : At D N) (items more : List Item) → AreCells a.cluster.registry → Went g n a items b → Went g n b more c → Went g n a (items ++ more) c
+  went_on a b c items more configured first second = record {
     registry = second.registry ∙ first.registry;
     trace = second.trace ∙ ap (λ (t : List Transition). t ++ steps_told more) first.trace ∙ append_assoc a.cluster.trace.items (steps_told items) (steps_told more) ∙ ap (λ (t : List Transition). a.cluster.trace.items ++ t) (sym (steps_append items more));
     notes = second.notes ∙ ap (λ (t : List Note). t ++ notes_told more) first.notes ∙ append_assoc a.cluster.notes.items (notes_told items) (notes_told more) ∙ ap (λ (t : List Note). a.cluster.notes.items ++ t) (sym (notes_append items more));
@@ -77,7 +79,7 @@ module _ {D N : Type 0} (g : Ghosts D) (n : WireGhosts N) where
         let registry = a.cluster.registry in
         let one = first.brings start w order is_in in
         let w_then = run registry one.events w in
-        let order_then = run-in_order registry start one.events w order in
+        let order_then = run-in_order registry start (wide_of registry configured) one.events w order in
         let there = second.brings start w_then (subst (λ r. IsInOrder r start w_then) (sym first.registry) order_then) one.goes.now in
         let two = subst (λ r. Brings g n r w_then (lines_told more) b c) first.registry there in
         record {

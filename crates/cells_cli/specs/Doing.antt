@@ -135,8 +135,9 @@ ReadsAll s script_now (Err stop) = Unit {0}
 abbrev pub EndsSo : {D : Type 0} → DiskGhosts D → D → D → ClusterError → Type 0
 EndsSo d disk disk_now error = IsEndOf {T = Unit {0}} d disk disk_now (Err error)
 
--- a line's stop has its cause
+-- a line's stop has its cause; no line stops for a fault of reading
 abbrev pub HasLineCause : {W D : Type 0} → SinkGhosts W → DiskGhosts D → W → W → D → D → Result (Unit {0}) UpStop → Type 0
+HasLineCause w d out out_now disk disk_now (Err ReadStop) = ⊥
 HasLineCause w d out out_now disk disk_now (Err WriteStop) = SinkFails w out out_now
 HasLineCause w d out out_now disk disk_now (Err (ClusterStop error)) = EndsSo d disk disk_now error
 HasLineCause w d out out_now disk disk_now other = Unit {0}

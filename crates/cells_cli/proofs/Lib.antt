@@ -15,3 +15,5 @@ pub mod Went
 pub mod Doing
 pub mod Scripted
 pub mod Causes
+pub mod Opened
+pub mod Reporting

@@ -167,7 +167,7 @@ fn do_lines<S: Source, W: Sink, D: Disk, N: Wire, C: Clock>(
         (moment cluster.new disk.new wire.new) out.old out.new result }
     ensures end { IsTrue S.tells → ReadsAll S.Source script.new result }
     ensures cause { HasItsCause S.Source W.Sink (EndsSo D.Disk disk.old disk.new) script.old script.new out.old out.new result }
-    ensures later { D.faults disk.old ≤ D.faults disk.new }
+    ensures later { (W.faults out.old ≤ W.faults out.new) × (D.faults disk.old ≤ D.faults disk.new) }
 {
     while lines.next(script)? {
         take_line(
@@ -199,6 +199,7 @@ pub fn up<S: Source, W: Sink, D: Disk, N: Wire, C: Clock>(
         wire.old wire.new (ended result) }
     ensures end { IsTrue S.tells → ReadsAll S.Source script.new result }
     ensures cause { HasItsCause S.Source W.Sink (OpensSo D.Disk registry disk.old disk.new) script.old script.new out.old out.new result }
+    ensures later { W.faults out.old ≤ W.faults out.new }
 {
     let mut lines = LineReader::new(alloc, LINE_BYTES as usize)?;
     let mut cluster = Cluster::open(alloc, disk, registry)?;

@@ -22,7 +22,7 @@ pub returns-clause-ups : goal.returns-clause-ups
 returns-clause-ups g c =
     ups_of g.S.Source g.W.Sink g.D.Disk g.N.Wire c.args.registry c.args.script.now c.args.disk.now c.args.wire.now c.in_ok-cluster.cluster c.open.new.disk
     (moment c.do_lines.new.cluster c.do_lines.new.disk c.do_lines.new.wire) c.args.out.now c.do_lines.new.out (ended c.do_lines.result)
-    c.in_ok-cluster.ensures.registry c.in_ok-cluster.ensures.new c.in_ok-cluster.ensures.ready.configured (λ tells still. c.in_ok-cluster.ensures.opens tells still) c.do_lines.ensures.later c.do_lines.ensures.does
+    c.in_ok-cluster.ensures.registry c.in_ok-cluster.ensures.new c.in_ok-cluster.ensures.ready.configured (λ tells still. c.in_ok-cluster.ensures.opens tells still) c.do_lines.ensures.later.1 c.do_lines.ensures.does
 
 pub returns-clause-cause : goal.returns-clause-cause
 returns-clause-cause g c =

@@ -1,5 +1,5 @@
 -- The report of a run with a script, from what was told and how its last line was written.
-use Rattle.std.proofs.Common.{◌≡◌, ◌≢◌, ◌⊎◌, inl, inr, ℕ, IsTrue, List, [], ◌∷◌, ◌++◌, Option, Some, None, Result, Ok, Err, append_assoc, refl, sym, ◌∙◌, ap, subst}
+use Rattle.std.proofs.Common.{◌≡◌, ◌≢◌, ◌⊎◌, inl, inr, ℕ, Bool, IsTrue, List, [], ◌∷◌, ◌++◌, Option, Some, None, Result, Ok, Err, append_assoc, refl, sym, ◌∙◌, ap, subst}
 use Rattle.std.proofs.lemmas.List.{append-nil}
 use Rattle.cells_edge.specs.Edge.{IsPrefix}
 use Rattle.cells_edge.specs.Streams.{SourceFails, SinkFails, WritesAll, WritesFront}
@@ -11,14 +11,17 @@ use Rattle.claim_map.specs.Registry.{Registry}
 use Rattle.cells_world.specs.declared.fault.ClusterError.{ClusterError}
 use Rattle.cells_world.specs.declared.fault.ClusterError.TheVariants.{DiskFailed, Memory as NoRoom, Damaged}
 use Rattle.cells_world.specs.declared.fault.Damage.TheVariants.{NotAJournal as NoJournal, BadEntry as RefusedEntry, ConfigLacks as LacksCell, EpochsSpent as SpentEpochs}
+use Rattle.cells_cli.specs.Config.{Job, Configures, does_lines, status_of_config}
+use Rattle.cells_cli.specs.declared.config.ConfigFault.{ConfigFault}
+use Rattle.cells_cli.specs.declared.config.ConfigFault.TheVariants.{Read, Long, Refused, NoSuchCell, Memory as NoSpace}
 use Rattle.cells_cli.specs.Doing.{AreFirst, AreTold, HasItsCause, IsWritten, ReadsAll, ended, status_of}
 use Rattle.cells_cli.specs.Installed.{DiskFails}
 use Rattle.cells_cli.specs.Lines.{lines_of}
-use Rattle.cells_cli.specs.Report.{WritesFrontOf}
+use Rattle.cells_cli.specs.Report.{IsReport, WritesFrontOf}
 use Rattle.cells_cli.specs.Script.{Numbered, line_refused, lines_done}
 use Rattle.cells_cli.specs.Status.{last_line}
 use Rattle.cells_cli.specs.Told.{Telling, numbered, numbered_broken, telling_text}
-use Rattle.cells_cli.specs.Ups.{EndsUp, EndsUpAt, IsDamaged, IsReportOf, OpensSo, RunsUp, Traces, Ups, WhereOpened, nothing_told}
+use Rattle.cells_cli.specs.Ups.{EndsUp, EndsUpAt, IsDamaged, IsReportOf, IsUpped, OpensSo, RunsUp, Traces, Ups, WhereOpened, nothing_told}
 use Rattle.cells_cli.specs.declared.status.Status.{Status}
 use Rattle.cells_cli.specs.declared.status.Status.TheVariants.{End, Usage, ConfigRegistry, ConfigRules, ConfigLacks, ConfigLong, Script, ReadFault, WriteFault, Memory, DiskFault, NotAJournal, BadEntry, FileInUse, Unheard, EpochsSpent}
 use Rattle.cells_cli.specs.declared.up.UpStop.{UpStop}
@@ -36,9 +39,9 @@ all_written : {W : Type 0} (w : SinkGhosts W) (told : Telling) (out out_now : W)
 all_written w told out out_now WriteFault apart h = absurd (apart refl)
 all_written w told out out_now other apart h = h
 
-whole_report : (told : Telling) (status : Status) (report : List ℕ) → status ≢ WriteFault → report ≡ telling_text told ++ last_line status → IsReportOf told status report
-whole_report told WriteFault report apart h = absurd (apart refl)
-whole_report told other report apart h = h
+whole_report : (tells : Bool) (wanted : List Numbered) (refused : Option ℕ) (told : Telling) (status : Status) (report : List ℕ) → status ≢ WriteFault → report ≡ telling_text told ++ last_line status → IsReportOf tells wanted refused told status report
+whole_report tells wanted refused told WriteFault report apart h = absurd (apart refl)
+whole_report tells wanted refused told other report apart h = h
 
 module _ {D N : Type 0} (d : DiskGhosts D) (n : WireGhosts N) (registry : Registry) (world : Rattle.claim_laws.specs.World.World) (told : Telling) (disk_now : D) (wire wire_now : N) where
   -- of a run that ended for want of memory, or at a fault of writing, less is said
@@ -54,6 +57,12 @@ module _ {D N : Type 0} (d : DiskGhosts D) (n : WireGhosts N) (registry : Regist
   either other T U f h = elim h [ inl none ↦ inl none | inr t ↦ inr (f t) ]
 
 module _ {S W D N : Type 0} (s : SourceGhosts S) (w : SinkGhosts W) (d : DiskGhosts D) (n : WireGhosts N) (registry : Registry) (script script_now : S) (out mid now : W) (disk disk_now : D) (wire wire_now : N) where
+  abbrev wanted : List Numbered
+  wanted = lines_done 0 (lines_of (s.left script))
+
+  abbrev refused : Option ℕ
+  refused = line_refused 0 (lines_of (s.left script))
+
   module _ (own : Status) (apart : own ≢ WriteFault) (ups : Ups s w d n registry script out mid disk disk_now wire wire_now own) (read : IsTrue s.tells → EndsUpAt (s.left script) (s.left script_now) own) (damage : IsDamaged d registry disk disk_now own) where
     before : WritesAll w out mid (telling_text ups.told)
     before = all_written w ups.told out mid own apart ups.written
@@ -68,7 +77,7 @@ module _ {S W D N : Type 0} (s : SourceGhosts S) (w : SinkGhosts W) (d : DiskGho
     ends_own all = record {
       told = ups.told;
       lines = ups.lines;
-      report = λ t. (telling_text ups.told ++ last_line own, whole_report ups.told own (telling_text ups.told ++ last_line own) apart refl, behind (last_line own) all t);
+      report = λ t. (telling_text ups.told ++ last_line own, whole_report s.tells wanted refused ups.told own (telling_text ups.told ++ last_line own) apart refl, behind (last_line own) all t);
       traces = ups.traces;
       read = read;
       damage = damage;
@@ -77,21 +86,30 @@ module _ {S W D N : Type 0} (s : SourceGhosts S) (w : SinkGhosts W) (d : DiskGho
     ends_memory : WritesAll w mid now (last_line Memory) → Runs Memory
     ends_memory all = record {
       told = ups.told;
-      lines = λ t. to_first (lines_done 0 (lines_of (s.left script))) (line_refused 0 (lines_of (s.left script))) ups.told own (ups.lines t);
+      lines = λ t. to_first wanted refused ups.told own (ups.lines t);
       report = λ t. (telling_text ups.told ++ last_line Memory, refl, behind (last_line Memory) all t);
       traces = λ tells still start world order configured is_of. either d n registry world ups.told disk_now wire wire_now own _ _ (less_in_memory d n registry world ups.told disk_now wire wire_now own) (ups.traces tells still start world order configured is_of);
       read = λ t. tt;
       damage = tt;
     }
 
+    last_apart : (last : Status) → (last ≡ own) ⊎ (last ≡ Memory) → last ≢ WriteFault
+    last_apart last which h = elim which [ inl e ↦ apart (sym e ∙ h) | inr e ↦ (let no : Memory ≡ WriteFault = sym e ∙ h in absurd cc) ]
+
+    last_told : (last : Status) → (last ≡ own) ⊎ (last ≡ Memory) → IsTrue s.tells → AreTold wanted refused ups.told last
+    last_told last which t = elim which [
+      | inl e ↦ subst (AreTold wanted refused ups.told) (sym e) (ups.lines t)
+      | inr e ↦ subst (AreTold wanted refused ups.told) (sym e) (to_first wanted refused ups.told own (ups.lines t))
+    ]
+
     ends_writing : WritesFrontOf w mid now own → Runs WriteFault
     ends_writing part = record {
       told = ups.told;
-      lines = λ t. to_first (lines_done 0 (lines_of (s.left script))) (line_refused 0 (lines_of (s.left script))) ups.told own (ups.lines t);
+      lines = λ t. to_first wanted refused ups.told own (ups.lines t);
       report = λ t. (
           let p = part t in
           (telling_text ups.told ++ p.0,
-           (p.1.0, (p.1.2.0, ap (λ (x : List ℕ). telling_text ups.told ++ x) p.1.2.1 ∙ sym (append_assoc (telling_text ups.told) p.0 p.1.2.0))),
+           (p.1.0, last_apart p.1.0 p.1.1, (λ t. last_told p.1.0 p.1.1 t), (p.1.2.0, ap (λ (x : List ℕ). telling_text ups.told ++ x) p.1.2.1 ∙ sym (append_assoc (telling_text ups.told) p.0 p.1.2.0))),
            p.2 ∙ ap (λ (x : List ℕ). x ++ p.0) (before t) ∙ append_assoc (w.written out) (telling_text ups.told) p.0));
       traces = λ tells still start world order configured is_of. either d n registry world ups.told disk_now wire wire_now own _ _ (less_in_writing d n registry world ups.told disk_now wire wire_now own) (ups.traces tells still start world order configured is_of);
       read = λ t. tt;
@@ -110,7 +128,7 @@ module _ {S W D N : Type 0} (s : SourceGhosts S) (w : SinkGhosts W) (d : DiskGho
   broke_off ups = record {
     told = ups.told;
     lines = ups.lines;
-    report = λ t. (let p = ups.written t in (p.0, (Memory, (p.1.0 ++ last_line Memory, ap (λ (x : List ℕ). x ++ last_line Memory) p.1.1 ∙ append_assoc p.0 p.1.0 (last_line Memory))), p.2));
+    report = λ t. (let p = ups.written t in (p.0, (Memory, (λ h. cc), ups.lines, (p.1.0 ++ last_line Memory, ap (λ (x : List ℕ). x ++ last_line Memory) p.1.1 ∙ append_assoc p.0 p.1.0 (last_line Memory))), p.2));
     traces = ups.traces;
     read = λ t. tt;
     damage = tt;
@@ -216,3 +234,31 @@ not_writing (ClusterStop (Damaged file (NoJournal at))) other h = cc
 not_writing (ClusterStop (Damaged file (RefusedEntry index))) other h = cc
 not_writing (ClusterStop (Damaged file (LacksCell cell))) other h = cc
 not_writing (ClusterStop (Damaged file SpentEpochs)) other h = cc
+
+-- what was written is a report of what was asked
+upped : (lines : List (List ℕ)) (told : Telling) (status : Status) (report : List ℕ) → status ≢ WriteFault → AreTold (lines_done 0 lines) (line_refused 0 lines) told status → report ≡ telling_text told ++ last_line status → IsUpped lines status report
+upped lines told WriteFault report apart h is = absurd (apart refl)
+upped lines told other report apart h is = (told, h, is)
+
+pub is_report : (registry : Registry) (script : List ℕ) (told : Telling) (tells : Bool) → IsTrue tells → (status : Status) (report : List ℕ)
+    → AreTold (lines_done 0 (lines_of script)) (line_refused 0 (lines_of script)) told status
+    → IsReportOf tells (lines_done 0 (lines_of script)) (line_refused 0 (lines_of script)) told status report → IsReport (record { job = Ok (does_lines registry); lines = lines_of script }) status report
+is_report registry script told tells t WriteFault report h is =
+    (is.0, telling_text told ++ last_line is.0, upped (lines_of script) told is.0 (telling_text told ++ last_line is.0) is.1 (is.2 t) refl, is.3)
+is_report registry script told tells t other report h is = (told, h, is)
+
+-- a configuration that gives no work
+module _ {S W D N : Type 0} (s : SourceGhosts S) (w : SinkGhosts W) (d : DiskGhosts D) (n : WireGhosts N) (registry : Registry) (script : S) (out now : W) (disk : D) (wire : N) where
+  none_told : (own : Status) → AreTold (lines_done 0 (lines_of (s.left script))) (line_refused 0 (lines_of (s.left script))) nothing_told own → IsWritten w nothing_told out out own
+      → ((T : Type 0) → WhereOpened own nothing_told T) → Ups s w d n registry script out out disk disk wire wire own
+  none_told own lines written where_none = record { told = nothing_told; lines = λ _. lines; written = written; traces = λ a b e f g h j. where_none _ }
+
+  pub config_fails : (fault : ConfigFault) (job : Result Job Status) → Configures (Err fault) job → job ≡ Ok (does_lines registry) → (result : Status) → EndsWith (status_of_config fault) result
+      → (result ≢ WriteFault → WritesAll w out now (last_line result)) → (result ≡ WriteFault → WritesFrontOf w out now (status_of_config fault)) → RunsUp s w d n registry script script out now disk disk wire wire result
+  config_fails Read job told is result ends all part =
+      finished s w d n registry script script out out now disk disk wire wire ReadFault (λ h. cc) (none_told ReadFault (refl, (lines_done 0 (lines_of (s.left script)), refl)) (λ t. sym (append-nil (w.written out))) (λ T. inl refl)) (λ t. tt) tt result ends all part
+  config_fails NoSpace job told is result ends all part =
+      finished s w d n registry script script out out now disk disk wire wire Memory (λ h. cc) (none_told Memory (lines_done 0 (lines_of (s.left script)), refl) (λ t. sym (append-nil (w.written out))) (λ T. inl refl)) (λ t. tt) tt result ends all part
+  config_fails Long job told is result ends all part = absurd cc
+  config_fails (Refused number) job told is result ends all part = absurd cc
+  config_fails NoSuchCell job told is result ends all part = absurd cc

@@ -1,5 +1,5 @@
 -- What a run of a script over the service and its cells comes to.
-use Rattle.std.specs.Prelude.{◌≡◌, ◌⊎◌, ℕ, IsTrue, List, [], ◌++◌, None, Some, Err}
+use Rattle.std.specs.Prelude.{◌≡◌, ◌≢◌, ◌⊎◌, ℕ, Bool, IsTrue, List, [], ◌++◌, Option, None, Some, Err}
 use Rattle.cells_edge.specs.Edge.{IsPrefix}
 use Rattle.cells_edge.specs.Streams.{Writes}
 use Rattle.cells_edge.specs.declared.sink.Sink.{Ghosts as SinkGhosts}
@@ -23,7 +23,7 @@ use Rattle.cells_world.specs.declared.fault.Damage.{Damage}
 use Rattle.cells_world.specs.declared.fault.Damage.TheVariants.{NotAJournal as NoJournal, BadEntry as RefusedEntry, ConfigLacks as LacksCell, EpochsSpent as SpentEpochs}
 use Rattle.cells_cli.specs.Doing.{AreTold, IsBetween, IsWritten}
 use Rattle.cells_cli.specs.Lines.{lines_of}
-use Rattle.cells_cli.specs.Script.{lines_done, line_refused}
+use Rattle.cells_cli.specs.Script.{Numbered, lines_done, line_refused}
 use Rattle.cells_cli.specs.Status.{last_line}
 use Rattle.cells_cli.specs.Told.{Item, Telling, lines_told, steps_told, telling_text}
 use Rattle.cells_cli.specs.Went.{AreOfLines}
@@ -68,10 +68,12 @@ pub record Ups {S W D N : Type 0} (s : SourceGhosts S) (w : SinkGhosts W) (d : D
       IsInOrder registry start world → AreConfigured registry world → IsOf registry (d.seen disk) world →
       WhereOpened status told (Traces d n registry world told.items disk_now wire wire_now status)
 
--- The reports of a run with a script, by how it ended: what is told, and the last line. A fault of writing leaves a front of one.
-abbrev pub IsReportOf : Telling → Status → List ℕ → Type 0
-IsReportOf told WriteFault report = (last : Status) × IsPrefix report (telling_text told ++ last_line last)
-IsReportOf told status report = report ≡ telling_text told ++ last_line status
+-- The reports of a run with a script, by how it ended: what is told, and the last line. A fault of writing leaves a front of a report with
+-- another last line.
+abbrev pub IsReportOf : Bool → List Numbered → Option ℕ → Telling → Status → List ℕ → Type 0
+IsReportOf tells wanted refused told WriteFault report =
+    (last : Status) × (last ≢ WriteFault) × (IsTrue tells → AreTold wanted refused told last) × IsPrefix report (telling_text told ++ last_line last)
+IsReportOf tells wanted refused told status report = report ≡ telling_text told ++ last_line status
 
 -- such a report of these lines; no run that could write it whole ends with a fault of writing
 abbrev pub IsUpped : List (List ℕ) → Status → List ℕ → Type 0
@@ -113,7 +115,7 @@ EndsUp other = ⊥
 pub record RunsUp {S W D N : Type 0} (s : SourceGhosts S) (w : SinkGhosts W) (d : DiskGhosts D) (n : WireGhosts N) (registry : Registry) (script script_now : S) (out out_now : W) (disk disk_now : D) (wire wire_now : N) (status : Status) : Type 0 where
   pub told : Telling
   pub lines : IsTrue s.tells → AreTold (lines_done 0 (lines_of (s.left script))) (line_refused 0 (lines_of (s.left script))) told status
-  pub report : Writes w out out_now (IsReportOf told status)
+  pub report : Writes w out out_now (IsReportOf s.tells (lines_done 0 (lines_of (s.left script))) (line_refused 0 (lines_of (s.left script))) told status)
   pub traces : IsTrue d.tells → StandsStill d disk disk_now → (start : ClaimMap) (world : World) →
       IsInOrder registry start world → AreConfigured registry world → IsOf registry (d.seen disk) world →
       WhereOpened status told (Traces d n registry world told.items disk_now wire wire_now status)

@@ -138,7 +138,7 @@ none_refused_more lines n line rest ahead more counted none short few =
     ∙ one_more BODY 0 (take n lines) line none short (let taken = length_taken n lines line rest ahead in omega (arith, taken, few))
 
 -- what a reader says where it gave a line
-pub next_is : (some : Bool) (ahead line rest : List ℕ) → some ≡ true → IsNext ahead some line rest → lines_of ahead ≡ line ∷ lines_of rest
+pub next_is : (some : Bool) (ahead line rest : List ℕ) → some ≡ true → IsNext lines_of ahead some line rest → lines_of ahead ≡ line ∷ lines_of rest
 next_is true ahead line rest t h = h
 next_is false ahead line rest t h = absurd cc
 

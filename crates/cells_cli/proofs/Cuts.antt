@@ -4,7 +4,7 @@ use Rattle.std.specs.List.{position_or_len, onto_first}
 use Rattle.std.proofs.lemmas.Bool.{ltb-true}
 use Rattle.std.proofs.lemmas.Bool.Decides.{nat_tests}
 use Rattle.std.proofs.lemmas.Option.{cond_some}
-use Rattle.std.proofs.lemmas.List.{append-nil, length-take-le}
+use Rattle.std.proofs.lemmas.List.{append-nil}
 use Rattle.cells_base.proofs.Truth.{not_picked}
 use Rattle.cells_cli.specs.Lines.{is_end, lines_of, StartsLong}
 
@@ -67,12 +67,6 @@ pub cut_last : (p : List ℕ) → position is_end p ≡ None → 0 < length p �
 cut_last [] h some = absurd (omega arith)
 cut_last (b ∷ p) h some = cut_open b p [] h ∙ ap (λ (l : List ℕ). (b ∷ l) ∷ []) (append-nil p)
 
-pub long_open : (limit : ℕ) (p left : List ℕ) → position is_end p ≡ None → limit < length p → StartsLong limit (p ++ left)
+pub long_open : (limit : ℕ) (p left : List ℕ) → position is_end p ≡ None → limit < length p → StartsLong lines_of limit (p ++ left)
 long_open limit [] left h long = absurd (omega arith)
 long_open limit (b ∷ p) left h long = (b ∷ (p ++ first_line (lines_of left)), later_lines (lines_of left), cut_open b p left h, omega (arith, length-append p (first_line (lines_of left))))
-
-pub long_at : (limit : ℕ) (p left : List ℕ) (at : ℕ) → position is_end p ≡ Some at → limit < at → StartsLong limit (p ++ left)
-long_at limit p left at h long =
-    let found = cond_some (nat_lt (position_or_len is_end p) (length p)) _ _ h in
-    let within = ltb-true _ _ found.0 in
-    (take at p, lines_of (drop (at + 1) p ++ left), cut_at p left at h, omega (arith, found.1, within, length-take-le at p (omega (arith, found.1, within))))

@@ -1,4 +1,6 @@
 pub mod Cuts
+pub mod Scripts
+pub mod Ends
 pub mod Places
 pub mod Refusals
 pub mod Runs

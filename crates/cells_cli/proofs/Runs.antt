@@ -1,13 +1,15 @@
 -- The first line of a text of which a run in a buffer was read.
-use Rattle.std.proofs.Common.{◌≡◌, ℕ, ◌+◌, ◌-◌, ◌<◌, ◌≤◌, Option, Some, None, position, List, [], ◌∷◌, ◌++◌, length, take, drop, ap, sym, ◌∙◌, unwrap_or, arith, length-take-le, length-drop, take-take}
+use Rattle.std.proofs.Common.{◌≡◌, ℕ, ◌+◌, ◌-◌, ◌<◌, ◌≤◌, Some, None, position, List, [], ◌∷◌, ◌++◌, length, take, drop, ap, sym, ◌∙◌, arith, length-take-le, length-drop, take-take}
 use Rattle.std.specs.List.{slice_range}
 use Rattle.std.proofs.lemmas.List.{drop-take, drop-drop}
 use Rattle.std.proofs.lemmas.List.Quantifiers.{position-Some}
 use Rattle.cells_cli.specs.declared.lines.Span.{Span}
-use Rattle.cells_cli.specs.Lines.{is_end, lines_of, StartsLong}
+use Rattle.cells_cli.specs.declared.lines.LineEnd.{LineEnd}
+use Rattle.cells_cli.specs.Lines.{is_end, StartsLong}
+use Rattle.cells_cli.specs.LineEnds.{lines_by, line_text, MayFollow}
 use Rattle.cells_cli.specs.Spans.{IsWithin, bytes_at}
 use Rattle.cells_cli.specs.First.{IsLine}
-use Rattle.cells_cli.proofs.Cuts.{cut_at, cut_last, long_open, long_at}
+use Rattle.cells_cli.proofs.Ends.{by_at, by_last, by_long_at, by_long_open, nothing, most}
 
 pub run_length : (b : List ℕ) (from to : ℕ) → to ≤ length b → length (slice_range b from to) ≡ to - from
 run_length b from to within = length-take-le (to - from) (drop from b) (omega (arith, length-drop from b))
@@ -29,54 +31,65 @@ module _ (b : List ℕ) (from to : ℕ) (within : to ≤ length b) where
       omega (arith, some.0, run_length b from to within)
 
   -- a line that ends within the run
-  line_at : (left : List ℕ) (at : ℕ) → position is_end (slice_range b from to) ≡ Some at
-      → lines_of (slice_range b from to ++ left) ≡ slice_range b from (from + at) ∷ lines_of (slice_range b (from + at + 1) to ++ left)
-  line_at left at found =
+  line_at : (ends : LineEnd) (left : List ℕ) (at : ℕ) → position is_end (slice_range b from to) ≡ Some at
+      → lines_by ends (slice_range b from to ++ left) ≡ line_text ends (slice_range b from (from + at)) ∷ lines_by ends (slice_range b (from + at + 1) to ++ left)
+  line_at ends left at found =
       let run = slice_range b from to in
       let below = at_within at found in
       let place : from + at + 1 ≡ from + (at + 1) = omega arith in
       let behind : slice_range b (from + at + 1) to ≡ drop (at + 1) run = ap (λ n. slice_range b n to) place ∙ run_behind b from to (at + 1) (omega arith) in
-      cut_at run left at found
-      ∙ ap (λ (l : List ℕ). l ∷ lines_of (drop (at + 1) run ++ left)) (sym (run_front b from to at (omega arith)))
-      ∙ ap (λ (l : List ℕ). slice_range b from (from + at) ∷ lines_of (l ++ left)) (sym behind)
+      by_at ends run left at found
+      ∙ ap (λ (l : List ℕ). line_text ends l ∷ lines_by ends (drop (at + 1) run ++ left)) (sym (run_front b from to at (omega arith)))
+      ∙ ap (λ (l : List ℕ). line_text ends (slice_range b from (from + at)) ∷ lines_by ends (l ++ left)) (sym behind)
 
   -- the last line
-  line_last : (left : List ℕ) → position is_end (slice_range b from to) ≡ None → from < to → left ≡ []
-      → lines_of (slice_range b from to ++ left) ≡ slice_range b from to ∷ lines_of (slice_range b to to ++ left)
-  line_last left none some end =
+  line_last : (ends : LineEnd) (left : List ℕ) → position is_end (slice_range b from to) ≡ None → from < to → left ≡ []
+      → lines_by ends (slice_range b from to ++ left) ≡ slice_range b from to ∷ lines_by ends (slice_range b to to ++ left)
+  line_last ends left none some end =
       let run = slice_range b from to in
       let zero : to - to ≡ 0 = omega arith in
       let size = run_length b from to within in
-      ap (λ l. lines_of (run ++ l)) end ∙ cut_last run none (omega arith)
-      ∙ ap (λ n. run ∷ lines_of (take n (drop to b) ++ [])) (sym zero)
-      ∙ ap (λ l. run ∷ lines_of (slice_range b to to ++ l)) (sym end)
+      ap (λ l. lines_by ends (run ++ l)) end ∙ by_last ends run none (omega arith)
+      ∙ ap (λ (l : List (List ℕ)). run ∷ l) (sym (nothing ends))
+      ∙ ap (λ n. run ∷ lines_by ends (take n (drop to b) ++ [])) (sym zero)
+      ∙ ap (λ l. run ∷ lines_by ends (slice_range b to to ++ l)) (sym end)
 
-module _ (b : List ℕ) (pending : Span) (within : IsWithin pending b) (limit : ℕ) where
-  -- a line that ends within the run and is not too long
-  pub is_line_at : (at : ℕ) → position is_end (bytes_at pending b) ≡ Some at → at ≤ limit
-      → IsLine b pending limit (record { from = pending.from; to = pending.from + at }) (record { from = pending.from + at + 1; to = pending.to })
-  is_line_at at found few =
-      let below = at_within b pending.from pending.to within.1 at found in
-      record {
-        line_within = (omega arith, omega (arith, within.1));
-        rest_within = (omega arith, within.1);
-        short = omega (arith, run_length b pending.from (pending.from + at) (omega (arith, within.1)));
-        next = λ left _. line_at b pending.from pending.to within.1 left at found;
-      }
+module _ (ends : LineEnd) (b : List ℕ) (pending : Span) (within : IsWithin pending b) (limit : ℕ) where
+  -- a line that ends within the run
+  module _ (at : ℕ) (found : position is_end (bytes_at pending b) ≡ Some at) (line : Span) (line_within : IsWithin line b)
+      (text : bytes_at line b ≡ line_text ends (slice_range b pending.from (pending.from + at))) where
+    -- it is not too long
+    pub is_line_at : line.to - line.from ≤ limit → IsLine ends b pending limit line (record { from = pending.from + at + 1; to = pending.to })
+    is_line_at few =
+        let below = at_within b pending.from pending.to within.1 at found in
+        record {
+          line_within = line_within;
+          rest_within = (omega arith, within.1);
+          short = omega (arith, run_length b line.from line.to line_within.1);
+          next = λ left _. line_at b pending.from pending.to within.1 ends left at found
+              ∙ ap (λ (l : List ℕ). l ∷ lines_by ends (slice_range b (pending.from + at + 1) pending.to ++ left)) (sym text);
+        }
+
+    -- it is too long
+    pub is_long_at : limit < line.to - line.from → (left : List ℕ) → StartsLong (lines_by ends) limit (bytes_at pending b ++ left)
+    is_long_at long left =
+        let below = at_within b pending.from pending.to within.1 at found in
+        let same = text ∙ ap (line_text ends) (run_front b pending.from pending.to at (omega arith)) in
+        by_long_at ends limit (bytes_at pending b) left at found (omega (arith, run_length b line.from line.to line_within.1, ap length same))
 
   -- the last line, which is not too long
   pub is_line_last : position is_end (bytes_at pending b) ≡ None → pending.from < pending.to → pending.to - pending.from ≤ limit
-      → IsLine b pending limit pending (record { from = pending.to; to = pending.to })
+      → IsLine ends b pending limit pending (record { from = pending.to; to = pending.to })
   is_line_last none some few =
       let length_is = run_length b pending.from pending.to within.1 in
       record {
         line_within = within;
         rest_within = (omega arith, within.1);
         short = omega (arith, length_is);
-        next = λ left ends. line_last b pending.from pending.to within.1 left none some (ends none (omega (arith, length_is)));
+        next = λ left over. line_last b pending.from pending.to within.1 ends left none some (over none (omega (arith, length_is, most ends limit)));
       }
 
-  -- a line that is too long
-  pub is_long : (end : Option ℕ) → end ≡ position is_end (bytes_at pending b) → limit < unwrap_or end (pending.to - pending.from) → (left : List ℕ) → StartsLong limit (bytes_at pending b ++ left)
-  is_long None found long left = long_open limit (bytes_at pending b) left (sym found) (omega (arith, run_length b pending.from pending.to within.1))
-  is_long (Some at) found long left = long_at limit (bytes_at pending b) left at (sym found) long
+  -- bytes without an end that are too many
+  pub is_long_last : position is_end (bytes_at pending b) ≡ None → limit < pending.to - pending.from
+      → (left : List ℕ) → MayFollow ends (bytes_at pending b) limit left → StartsLong (lines_by ends) limit (bytes_at pending b ++ left)
+  is_long_last none long left may = by_long_open ends limit (bytes_at pending b) left none (omega (arith, run_length b pending.from pending.to within.1)) may

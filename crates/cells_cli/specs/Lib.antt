@@ -1,5 +1,7 @@
 pub mod First
 pub mod Lines
+pub mod ScriptLines
+pub mod LineEnds
 pub mod Ahead
 pub mod Refused
 pub mod Spans

@@ -12,14 +12,14 @@ abbrev pub lines_of : List ℕ → List (List ℕ)
 lines_of [] = []
 lines_of (b ∷ bs) = if is_end b then [] ∷ lines_of bs else onto_first b (lines_of bs)
 
--- a line and the text behind it, or nothing at the end
-abbrev pub IsNext : List ℕ → Bool → List ℕ → List ℕ → Type 0
-IsNext ahead true line rest = lines_of ahead ≡ line ∷ lines_of rest
-IsNext ahead false line rest = (ahead ≡ []) × (rest ≡ [])
+-- a line and the text behind it, or nothing at the end, where a text has these lines
+abbrev pub IsNext : (List ℕ → List (List ℕ)) → List ℕ → Bool → List ℕ → List ℕ → Type 0
+IsNext lines ahead true line rest = lines ahead ≡ line ∷ lines rest
+IsNext lines ahead false line rest = (ahead ≡ []) × (rest ≡ [])
 
 -- the first line has more bytes than the limit
-abbrev pub StartsLong : ℕ → List ℕ → Type 0
-StartsLong limit ahead = (line : List ℕ) × (more : List (List ℕ)) × (lines_of ahead ≡ line ∷ more) × (limit < length line)
+abbrev pub StartsLong : (List ℕ → List (List ℕ)) → ℕ → List ℕ → Type 0
+StartsLong lines limit ahead = (line : List ℕ) × (more : List (List ℕ)) × (lines ahead ≡ line ∷ more) × (limit < length line)
 
 -- the number of the first line that is refused, where so many were given before: one of more bytes than the limit, or the one behind as many as an input may have
 abbrev pub first_refused : ℕ → ℕ → List (List ℕ) → Option ℕ

@@ -15,7 +15,8 @@
 //! is in use. At its end each of them is a journal without a body in whatever a crash leaves, and every other
 //! file is as it was (`specs/Files`, `specs/Installed`).
 //!
-//! The lines come as `specs/Lines` defines them, in whatever pieces the source gives its bytes.
+//! The lines come as `specs/Lines` defines them, in whatever pieces the source gives its bytes, and those of
+//! a script as `specs/ScriptLines` does: there LF drops a CR in front of it.
 //!
 //! It stands on `message_json`, `claim_service`, `disk_journal`, `cell_registry` and `cells_edge`. The caller of
 //! [`run`] keeps nothing; that of [`finish`] gives a status which is no fault of writing.
@@ -28,6 +29,7 @@ mod lines;
 mod reading;
 mod replay;
 mod report;
+mod script_lines;
 mod service;
 mod status;
 mod tellable;

@@ -1,7 +1,8 @@
-ghost use Rattle.std.specs.Prelude.{◌≡◌, ◌≢◌, ◌+◌, ◌-◌, ◌≤◌, ◌<◌, ◌++◌, [], ◌∷◌, IsTrue, List, ℕ, length, take, drop, true, false, if◌then◌else◌, IfOk, IfErr, IfSome, OnOk, OnErr, IsErrOf, position, None, Err};
+ghost use Rattle.std.specs.Prelude.{◌≡◌, ◌≢◌, ◌+◌, ◌-◌, ◌≤◌, ◌<◌, ◌++◌, [], ◌∷◌, IsTrue, List, ℕ, length, take, drop, true, false, if◌then◌else◌, IfOk, IfErr, IfSome, OnOk, OnErr, IsErrOf, position, Some, None, Err};
 ghost use Rattle.cells_base.specs.Causes.{HasCause, Rose};
-ghost use Rattle.cells_cli.specs.Lines.{is_end};
-ghost use Rattle.cells_cli.specs.Ahead.{ahead, refused_ahead, GoesOn, EndsText, SameRefused, MayGive, IsTooLong};
+ghost use Rattle.cells_cli.specs.Lines.{is_end, lines_of};
+ghost use Rattle.cells_cli.specs.LineEnds.{lines_by, line_text, most_bytes, without_return};
+ghost use Rattle.cells_cli.specs.Ahead.{ahead, refused_ahead, GoesOn, EndsText, SameRefused, MayGive, IsTooLong, IsLong};
 ghost use Rattle.cells_cli.specs.Spans.{IsWithin, bytes_at};
 ghost use Rattle.cells_cli.specs.First.{IsFirst};
 ghost use Rattle.cells_cli.specs.Refused.{Refuses};
@@ -22,6 +23,28 @@ pub const LONGEST_LINE_BYTES: usize = 65536;
 const PIECE_BYTES: usize = 4096;
 
 const LINE_FEED: u8 = 10;
+
+const CARRIAGE_RETURN: u8 = 13;
+
+/// What ends a line, and is no part of it.
+#[derive(Clone, Copy)]
+pub(crate) enum LineEnd {
+    /// LF.
+    Feed,
+    /// LF, and a CR in front of it where there is one.
+    ReturnAndFeed,
+}
+
+// The most bytes in front of an LF that a line of at most `limit` bytes may have.
+fn most_read(ends: LineEnd, limit: usize) -> usize
+    requires { limit ≤ LONGEST_LINE_BYTES }
+    ensures { result ≡ most_bytes ends limit }
+{
+    match ends {
+        LineEnd::Feed => limit,
+        LineEnd::ReturnAndFeed => limit + 1,
+    }
+}
 
 /// Why there is no next line.
 #[derive(Clone, Copy, Debug, PartialEq, Eq)]
@@ -124,7 +147,7 @@ fn fill<S: Source>(
     source: &mut S,
 ) -> Result<Option<usize>, SourceFailed>
     requires within { IsWithin pending.old buffer.old }
-    requires room { limit + PIECE_BYTES ≤ length buffer.old }
+    requires room { limit < length buffer.old }
     ensures within { IsWithin pending.new buffer.new }
     ensures found { IfOk result (λ at. at ≡ position is_end (bytes_at pending.new buffer.new)) }
     ensures ahead { IsTrue S.tells → bytes_at pending.new buffer.new ++ S.left source.new ≡
@@ -158,40 +181,90 @@ enum Found {
     End,
 }
 
-// Looks at the bytes that were read, whose first LF is at `end`. Where there is none, and the bytes
-// are no more than the limit, the text ends with them.
-fn first_line(bytes: &[u8], pending: Span, end: Option<usize>, limit: usize) -> Found
-    requires within { IsWithin pending bytes.now }
-    requires found { end ≡ position is_end (bytes_at pending bytes.now) }
-    ensures { IsFirst bytes.now pending limit result }
+// How many bytes a line has without a CR at its end.
+fn len_without_return(line: &[u8]) -> usize
+    ensures within { result ≤ length line.now }
+    ensures kept { take result line.now ≡ without_return line.now }
 {
-    let size = end.unwrap_or(pending.to - pending.from);
+    let Some((last, rest)) = line.split_last() else {
+        return 0;
+    };
+    if *last == CARRIAGE_RETURN {
+        return rest.len();
+    }
+    line.len()
+}
+
+// The line of these bytes, in front of the LF that ends it.
+fn text_of(bytes: &[u8], span: Span, ends: LineEnd) -> Span
+    requires { IsWithin span bytes.now }
+    ensures within { IsWithin result bytes.now }
+    ensures text { bytes_at result bytes.now ≡ line_text ends (bytes_at span bytes.now) }
+{
+    match ends {
+        LineEnd::Feed => span,
+        LineEnd::ReturnAndFeed => Span {
+            from: span.from,
+            to: span.from + len_without_return(part(bytes, span)),
+        },
+    }
+}
+
+// A line whose LF is at `at`.
+fn ended_line(bytes: &[u8], pending: Span, at: usize, limit: usize, ends: LineEnd) -> Found
+    requires within { IsWithin pending bytes.now }
+    requires found { position is_end (bytes_at pending bytes.now) ≡ Some at }
+    ensures { IsFirst ends bytes.now pending limit result }
+{
+    let whole = Span {
+        from: pending.from,
+        to: pending.from + at,
+    };
+    let line = text_of(bytes, whole, ends);
+    if line.to - line.from > limit {
+        return Found::Long;
+    }
+    Found::Line {
+        line,
+        rest: Span {
+            from: pending.from + at + 1,
+            to: pending.to,
+        },
+    }
+}
+
+// What stands first where no LF is among the bytes that were read.
+fn last_line(bytes: &[u8], pending: Span, limit: usize, ends: LineEnd) -> Found
+    requires within { IsWithin pending bytes.now }
+    requires found { position is_end (bytes_at pending bytes.now) ≡ None }
+    ensures { IsFirst ends bytes.now pending limit result }
+{
+    let size = pending.to - pending.from;
     if size > limit {
         return Found::Long;
     }
-    match end {
-        Some(at) => Found::Line {
-            line: Span {
-                from: pending.from,
-                to: pending.from + at,
-            },
-            rest: Span {
-                from: pending.from + at + 1,
-                to: pending.to,
-            },
+    if size == 0 {
+        return Found::End;
+    }
+    Found::Line {
+        line: pending,
+        rest: Span {
+            from: pending.to,
+            to: pending.to,
         },
-        None => {
-            if size == 0 {
-                return Found::End;
-            }
-            Found::Line {
-                line: pending,
-                rest: Span {
-                    from: pending.to,
-                    to: pending.to,
-                },
-            }
-        }
+    }
+}
+
+// Looks at the bytes that were read, whose first LF is at `end`. Where there is none, and the bytes
+// are no more than a line and its end may have, the text ends with them.
+fn first_line(bytes: &[u8], pending: Span, end: Option<usize>, limit: usize, ends: LineEnd) -> Found
+    requires within { IsWithin pending bytes.now }
+    requires found { end ≡ position is_end (bytes_at pending bytes.now) }
+    ensures { IsFirst ends bytes.now pending limit result }
+{
+    match end {
+        Some(at) => ended_line(bytes, pending, at, limit, ends),
+        None => last_line(bytes, pending, limit, ends),
     }
 }
 
@@ -214,12 +287,12 @@ impl Model for LineReader {
     ghost Value = { Progress };
 
     ghost use Rattle.cells_cli.specs.Spans.{IsWithin, bytes_at};
-    ghost use Rattle.cells_cli.specs.declared.lines.TheConstants.{LINES, PIECE_BYTES};
+    ghost use Rattle.cells_cli.specs.declared.lines.TheConstants.{LINES, LONGEST_LINE_BYTES, PIECE_BYTES};
     ghost use Rattle.std.specs.Prelude.{vec_len};
 
     ghost view = { λ r. record { line = bytes_at r.line r.buffer.items; pending = bytes_at r.pending r.buffer.items; given = r.given; limit = r.limit } };
 
-    ghost invariant = { λ r. (IsWithin r.line r.buffer.items) × (IsWithin r.pending r.buffer.items) × (r.given ≤ LINES) × (vec_len r.buffer ≡ r.limit + PIECE_BYTES) };
+    ghost invariant = { λ r. (IsWithin r.line r.buffer.items) × (IsWithin r.pending r.buffer.items) × (r.given ≤ LINES) × (r.limit ≤ LONGEST_LINE_BYTES) × (vec_len r.buffer ≡ r.limit + PIECE_BYTES) };
 }
 
 impl LineReader {
@@ -253,8 +326,8 @@ impl LineReader {
 
     /// Goes on to the next line, or answers false at the end of the text.
     pub fn next<S: Source>(&mut self, source: &mut S) -> Result<bool, LineFault>
-        ensures next { IsTrue S.tells → IfOk result (GoesOn S.Source self.old source.old self.new source.new) }
-        ensures end { IsTrue S.tells → IfOk result (EndsText S.Source self.old source.old source.new) }
+        ensures next { IsTrue S.tells → IfOk result (GoesOn lines_of S.Source self.old source.old self.new source.new) }
+        ensures end { IsTrue S.tells → IfOk result (EndsText lines_of S.Source self.old source.old source.new) }
         ensures counted { IfOk result (λ some. self.new.given ≡ (if some then self.old.given + 1 else self.old.given)) }
         ensures short { IfOk result (λ some. IsTrue some → MayGive self.old self.new.line) }
         ensures long { (line : ℕ) → IsErrOf result (LineFault.TooLong line) → IsTooLong self.old self.new line }
@@ -266,9 +339,36 @@ impl LineReader {
         ensures given { OnErr result (self.new.given ≡ self.old.given) }
         ensures limit { self.new.limit ≡ self.old.limit }
         ensures passed { IsTrue S.tells →
-            IfOk result (λ _. SameRefused S.Source self.old source.old self.new source.new) }
+            IfOk result (λ _. SameRefused lines_of S.Source self.old source.old self.new source.new) }
         ensures refused { IsTrue S.tells →
-            IfErr result (λ fault. Refuses fault (refused_ahead S.Source self.old source.old)) }
+            IfErr result (λ fault. Refuses fault (refused_ahead lines_of S.Source self.old source.old)) }
+    {
+        self.advance(LineEnd::Feed, source)
+    }
+
+    // Goes on to the next line of those that end so.
+    pub(crate) fn advance<S: Source>(
+        &mut self,
+        ends: LineEnd,
+        source: &mut S,
+    ) -> Result<bool, LineFault>
+        ensures next { IsTrue S.tells →
+            IfOk result (GoesOn (lines_by ends) S.Source self.old source.old self.new source.new) }
+        ensures end { IsTrue S.tells → IfOk result (EndsText (lines_by ends) S.Source self.old source.old source.new) }
+        ensures counted { IfOk result (λ some. self.new.given ≡ (if some then self.old.given + 1 else self.old.given)) }
+        ensures short { IfOk result (λ some. IsTrue some → MayGive self.old self.new.line) }
+        ensures long { (line : ℕ) → IsErrOf result (LineFault.TooLong line) → IsLong ends self.old self.new line }
+        ensures many { IsErrOf result LineFault.TooMany → (self.old.given ≡ LINES) × (self.new.pending ≢ []) }
+        ensures read { IsErrOf result LineFault.Read → Rose (S.faults source.old) (S.faults source.new) }
+        ensures later { S.faults source.old ≤ S.faults source.new }
+        ensures stays { IsTrue S.tells → OnErr result (ahead S.Source self.new source.new ≡
+            ahead S.Source self.old source.old) }
+        ensures given { OnErr result (self.new.given ≡ self.old.given) }
+        ensures limit { self.new.limit ≡ self.old.limit }
+        ensures passed { IsTrue S.tells →
+            IfOk result (λ _. SameRefused (lines_by ends) S.Source self.old source.old self.new source.new) }
+        ensures refused { IsTrue S.tells →
+            IfErr result (λ fault. Refuses fault (refused_ahead (lines_by ends) S.Source self.old source.old)) }
     {
         let buffer = self.buffer.as_mut_slice();
         if self.given == LINES {
@@ -278,8 +378,9 @@ impl LineReader {
             }
             return Err(LineFault::TooMany);
         }
-        let end = fill(buffer, &mut self.pending, self.limit, source)?;
-        match first_line(buffer, self.pending, end, self.limit) {
+        let most = most_read(ends, self.limit);
+        let end = fill(buffer, &mut self.pending, most, source)?;
+        match first_line(buffer, self.pending, end, self.limit, ends) {
             Found::Line { line, rest } => {
                 self.line = line;
                 self.pending = rest;

@@ -16,7 +16,7 @@ pub record Writing : Type 0 where
   pub passes : Option ℕ
   pub faults : ℕ
 
--- one fault more, as far as the count goes
+-- one more, as far as a count goes
 abbrev pub counted : ℕ → ℕ
 counted faults = min (faults + 1) (2 ^ 64 - 1)
 

@@ -28,7 +28,7 @@ use Rattle.cells_world.specs.declared.fault.ClusterError.TheVariants.{DiskFailed
 use Rattle.cells_world.specs.declared.fault.Damage.TheVariants.{NotAJournal as NoJournal, BadEntry as RefusedEntry, ConfigLacks as LacksCell, EpochsSpent as SpentEpochs}
 use Rattle.cells_world.proofs.Going.{ready_is_of}
 use Rattle.cells_cli.specs.Doing.{Does, DoesScript, EndsSo, HasItsCause, ended, status_of_cluster}
-use Rattle.cells_cli.specs.Lines.{lines_of}
+use Rattle.cells_cli.specs.ScriptLines.{script_lines_of}
 use Rattle.cells_cli.specs.Script.{line_refused, lines_done}
 use Rattle.cells_cli.specs.Told.{Telling, lines_told, steps_told}
 use Rattle.cells_cli.specs.Ups.{HandsThese, OpensSo, Traces, Ups, WhereOpened, nothing_told}
@@ -54,22 +54,22 @@ module _ {S W D N : Type 0} (s : SourceGhosts S) (w : SinkGhosts W) (d : DiskGho
   -- nothing was opened
   module _ (out : W) (disk_now : D) (wire_now : N) where
     pub no_room : Ups s w d n registry script out out disk disk_now wire wire_now Memory
-    no_room = record { told = nothing_told; lines = λ _. (lines_done 0 (lines_of (s.left script)), refl); written = λ t. sym (append-nil (w.written out)); traces = λ a b e f g h j. inl refl }
+    no_room = record { told = nothing_told; lines = λ _. (lines_done 0 (script_lines_of (s.left script)), refl); written = λ t. sym (append-nil (w.written out)); traces = λ a b e f g h j. inl refl }
 
     pub not_opened : (error : ClusterError) → Ups s w d n registry script out out disk disk_now wire wire_now (status_of_cluster error)
-    not_opened (DiskFailed file) = record { told = nothing_told; lines = λ _. (lines_done 0 (lines_of (s.left script)), refl); written = λ t. sym (append-nil (w.written out)); traces = λ a b e f g h j. inl refl }
+    not_opened (DiskFailed file) = record { told = nothing_told; lines = λ _. (lines_done 0 (script_lines_of (s.left script)), refl); written = λ t. sym (append-nil (w.written out)); traces = λ a b e f g h j. inl refl }
     not_opened NoRoom = no_room
-    not_opened (Damaged file (NoJournal at)) = record { told = nothing_told; lines = λ _. (lines_done 0 (lines_of (s.left script)), refl); written = λ t. sym (append-nil (w.written out)); traces = λ a b e f g h j. inl refl }
-    not_opened (Damaged file (RefusedEntry index)) = record { told = nothing_told; lines = λ _. (lines_done 0 (lines_of (s.left script)), refl); written = λ t. sym (append-nil (w.written out)); traces = λ a b e f g h j. inl refl }
-    not_opened (Damaged file (LacksCell cell)) = record { told = nothing_told; lines = λ _. (lines_done 0 (lines_of (s.left script)), refl); written = λ t. sym (append-nil (w.written out)); traces = λ a b e f g h j. inl refl }
-    not_opened (Damaged file SpentEpochs) = record { told = nothing_told; lines = λ _. (lines_done 0 (lines_of (s.left script)), refl); written = λ t. sym (append-nil (w.written out)); traces = λ a b e f g h j. inl refl }
+    not_opened (Damaged file (NoJournal at)) = record { told = nothing_told; lines = λ _. (lines_done 0 (script_lines_of (s.left script)), refl); written = λ t. sym (append-nil (w.written out)); traces = λ a b e f g h j. inl refl }
+    not_opened (Damaged file (RefusedEntry index)) = record { told = nothing_told; lines = λ _. (lines_done 0 (script_lines_of (s.left script)), refl); written = λ t. sym (append-nil (w.written out)); traces = λ a b e f g h j. inl refl }
+    not_opened (Damaged file (LacksCell cell)) = record { told = nothing_told; lines = λ _. (lines_done 0 (script_lines_of (s.left script)), refl); written = λ t. sym (append-nil (w.written out)); traces = λ a b e f g h j. inl refl }
+    not_opened (Damaged file SpentEpochs) = record { told = nothing_told; lines = λ _. (lines_done 0 (script_lines_of (s.left script)), refl); written = λ t. sym (append-nil (w.written out)); traces = λ a b e f g h j. inl refl }
 
   -- the cluster was opened, and the lines were done
   module _ (cluster : Cluster) (opened : D) (new : At D N) (out out_now : W) (status : Status)
       (same : cluster.registry ≡ registry) (fresh : IsNew cluster) (cells : AreCells cluster.registry)
       (opens : IsTrue d.tells → StandsStill d disk opened → Opens registry (d.seen disk) cluster)
       (later : d.faults opened ≤ d.faults new.disk)
-      (does : Does w d n s.tells (lines_done 0 (lines_of (s.left script))) (line_refused 0 (lines_of (s.left script))) (moment cluster opened wire) new out out_now status) where
+      (does : Does w d n s.tells (lines_done 0 (script_lines_of (s.left script))) (line_refused 0 (script_lines_of (s.left script))) (moment cluster opened wire) new out out_now status) where
 
     traces_of : IsTrue d.tells → StandsStill d disk new.disk → (start : ClaimMap) (world : World) → IsInOrder registry start world → AreConfigured registry world → IsOf registry (d.seen disk) world → Traces d n registry world does.told.items new.disk wire new.wire status
     traces_of tells still start world order configured is_of =

@@ -16,7 +16,7 @@ use Rattle.cells_cli.specs.declared.config.ConfigFault.{ConfigFault}
 use Rattle.cells_cli.specs.declared.config.ConfigFault.TheVariants.{Read, Long, Refused, NoSuchCell, Memory as NoSpace}
 use Rattle.cells_cli.specs.Doing.{AreFirst, AreTold, HasItsCause, IsWritten, ReadsAll, ended, status_of}
 use Rattle.cells_cli.specs.Installed.{DiskFails}
-use Rattle.cells_cli.specs.Lines.{lines_of}
+use Rattle.cells_cli.specs.ScriptLines.{script_lines_of}
 use Rattle.cells_cli.specs.Report.{IsReport, WritesFrontOf}
 use Rattle.cells_cli.specs.Script.{Numbered, line_refused, lines_done}
 use Rattle.cells_cli.specs.Status.{last_line}
@@ -58,10 +58,10 @@ module _ {D N : Type 0} (d : DiskGhosts D) (n : WireGhosts N) (registry : Regist
 
 module _ {S W D N : Type 0} (s : SourceGhosts S) (w : SinkGhosts W) (d : DiskGhosts D) (n : WireGhosts N) (registry : Registry) (script script_now : S) (out mid now : W) (disk disk_now : D) (wire wire_now : N) where
   abbrev wanted : List Numbered
-  wanted = lines_done 0 (lines_of (s.left script))
+  wanted = lines_done 0 (script_lines_of (s.left script))
 
   abbrev refused : Option ℕ
-  refused = line_refused 0 (lines_of (s.left script))
+  refused = line_refused 0 (script_lines_of (s.left script))
 
   module _ (own : Status) (apart : own ≢ WriteFault) (ups : Ups s w d n registry script out mid disk disk_now wire wire_now own) (read : IsTrue s.tells → EndsUpAt (s.left script) (s.left script_now) own) (damage : IsDamaged d registry disk disk_now own) where
     before : WritesAll w out mid (telling_text ups.told)
@@ -135,7 +135,7 @@ module _ {S W D N : Type 0} (s : SourceGhosts S) (w : SinkGhosts W) (d : DiskGho
   }
 
 -- how the script ended, by which lines were told of
-pub ends_at : (script left : List ℕ) (told : Telling) (stop : UpStop) → AreTold (lines_done 0 (lines_of script)) (line_refused 0 (lines_of script)) told (status_of stop) → EndsUpAt script left (status_of stop)
+pub ends_at : (script left : List ℕ) (told : Telling) (stop : UpStop) → AreTold (lines_done 0 (script_lines_of script)) (line_refused 0 (script_lines_of script)) told (status_of stop) → EndsUpAt script left (status_of stop)
 ends_at script left told (ScriptStop line) h = h.0
 ends_at script left told ReadStop h = tt
 ends_at script left told WriteStop h = tt
@@ -241,24 +241,24 @@ upped lines told WriteFault report apart h is = absurd (apart refl)
 upped lines told other report apart h is = (told, h, is)
 
 pub is_report : (registry : Registry) (script : List ℕ) (told : Telling) (tells : Bool) → IsTrue tells → (status : Status) (report : List ℕ)
-    → AreTold (lines_done 0 (lines_of script)) (line_refused 0 (lines_of script)) told status
-    → IsReportOf tells (lines_done 0 (lines_of script)) (line_refused 0 (lines_of script)) told status report → IsReport (record { job = Ok (does_lines registry); lines = lines_of script }) status report
+    → AreTold (lines_done 0 (script_lines_of script)) (line_refused 0 (script_lines_of script)) told status
+    → IsReportOf tells (lines_done 0 (script_lines_of script)) (line_refused 0 (script_lines_of script)) told status report → IsReport (record { job = Ok (does_lines registry); lines = script_lines_of script }) status report
 is_report registry script told tells t WriteFault report h is =
-    (is.0, telling_text told ++ last_line is.0, upped (lines_of script) told is.0 (telling_text told ++ last_line is.0) is.1 (is.2 t) refl, is.3)
+    (is.0, telling_text told ++ last_line is.0, upped (script_lines_of script) told is.0 (telling_text told ++ last_line is.0) is.1 (is.2 t) refl, is.3)
 is_report registry script told tells t other report h is = (told, h, is)
 
 -- a configuration that gives no work
 module _ {S W D N : Type 0} (s : SourceGhosts S) (w : SinkGhosts W) (d : DiskGhosts D) (n : WireGhosts N) (registry : Registry) (script : S) (out now : W) (disk : D) (wire : N) where
-  none_told : (own : Status) → AreTold (lines_done 0 (lines_of (s.left script))) (line_refused 0 (lines_of (s.left script))) nothing_told own → IsWritten w nothing_told out out own
+  none_told : (own : Status) → AreTold (lines_done 0 (script_lines_of (s.left script))) (line_refused 0 (script_lines_of (s.left script))) nothing_told own → IsWritten w nothing_told out out own
       → ((T : Type 0) → WhereOpened own nothing_told T) → Ups s w d n registry script out out disk disk wire wire own
   none_told own lines written where_none = record { told = nothing_told; lines = λ _. lines; written = written; traces = λ a b e f g h j. where_none _ }
 
   pub config_fails : (fault : ConfigFault) (job : Result Job Status) → Configures (Err fault) job → job ≡ Ok (does_lines registry) → (result : Status) → EndsWith (status_of_config fault) result
       → (result ≢ WriteFault → WritesAll w out now (last_line result)) → (result ≡ WriteFault → WritesFrontOf w out now (status_of_config fault)) → RunsUp s w d n registry script script out now disk disk wire wire result
   config_fails Read job told is result ends all part =
-      finished s w d n registry script script out out now disk disk wire wire ReadFault (λ h. cc) (none_told ReadFault (refl, (lines_done 0 (lines_of (s.left script)), refl)) (λ t. sym (append-nil (w.written out))) (λ T. inl refl)) (λ t. tt) tt result ends all part
+      finished s w d n registry script script out out now disk disk wire wire ReadFault (λ h. cc) (none_told ReadFault (refl, (lines_done 0 (script_lines_of (s.left script)), refl)) (λ t. sym (append-nil (w.written out))) (λ T. inl refl)) (λ t. tt) tt result ends all part
   config_fails NoSpace job told is result ends all part =
-      finished s w d n registry script script out out now disk disk wire wire Memory (λ h. cc) (none_told Memory (lines_done 0 (lines_of (s.left script)), refl) (λ t. sym (append-nil (w.written out))) (λ T. inl refl)) (λ t. tt) tt result ends all part
+      finished s w d n registry script script out out now disk disk wire wire Memory (λ h. cc) (none_told Memory (lines_done 0 (script_lines_of (s.left script)), refl) (λ t. sym (append-nil (w.written out))) (λ T. inl refl)) (λ t. tt) tt result ends all part
   config_fails Long job told is result ends all part = absurd cc
   config_fails (Refused number) job told is result ends all part = absurd cc
   config_fails NoSuchCell job told is result ends all part = absurd cc

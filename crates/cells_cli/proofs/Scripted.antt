@@ -1,8 +1,7 @@
 -- The lines of a script, done one after another.
-use Rattle.std.proofs.Common.{◌≡◌, ◌≢◌, ℕ, ◌+◌, ◌<◌, ◌≤◌, Bool, true, false, cond, nat_lt, nat_le, IsTrue, List, [], ◌∷◌, ◌++◌, length, Option, Some, None, Result, Ok, Err, refl, sym, ◌∙◌, ap, subst, append_assoc, arith}
+use Rattle.std.proofs.Common.{◌≡◌, ◌≢◌, ◌⊎◌, inl, inr, ◌||◌, ℕ, ◌+◌, ◌<◌, ◌≤◌, Bool, true, false, cond, nat_lt, nat_le, IsTrue, List, [], ◌∷◌, ◌++◌, length, Option, Some, None, Result, Ok, Err, refl, sym, ◌∙◌, ap, subst, append_assoc, arith}
 use Rattle.std.proofs.lemmas.Bool.Decides.{nat_tests}
 use Rattle.std.proofs.lemmas.List.{append-nil}
-use Rattle.std.specs.List.{onto_first}
 use Rattle.cells_edge.specs.Edge.{IsPrefix}
 use Rattle.cells_edge.specs.Streams.{WritesAll, WritesFront}
 use Rattle.cells_edge.specs.declared.sink.Sink.{Ghosts as SinkGhosts}
@@ -18,7 +17,9 @@ use Rattle.cells_world.specs.declared.fault.ClusterError.{ClusterError}
 use Rattle.cells_world.specs.declared.fault.ClusterError.TheVariants.{DiskFailed, Memory as NoRoom, Damaged}
 use Rattle.cells_world.specs.declared.fault.Damage.TheVariants.{NotAJournal as NoJournal, BadEntry as RefusedEntry, ConfigLacks as LacksCell, EpochsSpent as SpentEpochs}
 use Rattle.cells_cli.specs.Doing.{AreFirst, AreTold, Does, IsWritten, SoFar, status_of, status_of_cluster, stop_of}
-use Rattle.cells_cli.specs.Lines.{is_end, lines_of, StartsLong}
+use Rattle.cells_cli.specs.Lines.{first_refused, IsNext}
+use Rattle.cells_cli.specs.ScriptLines.{script_lines_of}
+use Rattle.cells_cli.specs.Refused.{Refuses}
 use Rattle.cells_cli.specs.Script.{Numbered, done_with, is_skipped, line_refused, lines_done, reading_behind, reading_of, reading_with, refused_with}
 use Rattle.cells_cli.specs.Told.{Item, Broken, Telling, broken_text, items_text, numbered, numbered_broken, telling_text}
 use Rattle.cells_cli.specs.Went.{Went}
@@ -252,58 +253,55 @@ module _ {W D N : Type 0} (w : SinkGhosts W) (d : DiskGhosts D) (n : WireGhosts 
     written = λ t. so.written t ∙ ap (λ (x : List ℕ). w.written out ++ x) (sym (append-nil (items_text so.items)));
   }
 
--- the first line ahead is refused
-refused_first : (given : ℕ) (ahead : List (List ℕ)) (line : List ℕ) (more : List (List ℕ)) → ahead ≡ line ∷ more → reading_behind given line ≡ Refused → (line_refused given ahead ≡ Some (given + 1)) × (lines_done given ahead ≡ [])
-refused_first given ahead line more is refused = (
-  ap (line_refused given) is ∙ ap (λ r. refused_with (given + 1) r (line_refused (given + 1) more)) refused,
-  ap (lines_done given) is ∙ ap (λ r. done_with (given + 1) r (lines_done (given + 1) more)) refused,
-)
+-- a line that is refused has a number behind those given
+later_some : (b : Bool) (n k : ℕ) (rest : Option ℕ) → cond b (Some n) rest ≡ Some k → ((b ≡ true) × (n ≡ k)) ⊎ ((b ≡ false) × (rest ≡ Some k))
+later_some true n k rest h = inl (refl, cc)
+later_some false n k rest h = inr (refl, h)
 
-long_is_refused : (line : List ℕ) → LINE_BYTES < length line → reading_of line ≡ Refused
-unfolding reading_of
-long_is_refused line long =
-    let test : nat_lt LINE_BYTES (length line) ≡ true = grind (arith, nat_tests) in
-    ap (λ t. cond t Refused (cond (is_skipped line) Skipped (reading_with (line_of line)))) test
-
-either_refused : (b : Bool) (r : Reading) → r ≡ Refused → cond b Refused r ≡ Refused
-either_refused true r is = refl
-either_refused false r is = is
-
-pub long_refused : (given : ℕ) (ahead : List ℕ) → StartsLong LINE_BYTES ahead → (line_refused given (lines_of ahead) ≡ Some (given + 1)) × (lines_done given (lines_of ahead) ≡ [])
-long_refused given ahead (line, more, is, long) = refused_first given (lines_of ahead) line more is (either_refused (nat_le LINES given) (reading_of line) (long_is_refused line long))
-
-onto_some : (b : ℕ) (ls : List (List ℕ)) → (line : List ℕ) × (more : List (List ℕ)) × (onto_first b ls ≡ line ∷ more)
-onto_some b [] = (b ∷ [], [], refl)
-onto_some b (l ∷ ls) = (b ∷ l, ls, refl)
-
-some_line : (ahead : List ℕ) → ahead ≢ [] → (line : List ℕ) × (more : List (List ℕ)) × (lines_of ahead ≡ line ∷ more)
-some_line [] some = absurd (some refl)
-some_line (b ∷ bs) some =
-    elim (is_end b) as (λ v. (line : List ℕ) × (more : List (List ℕ)) × (cond v ([] ∷ lines_of bs) (onto_first b (lines_of bs)) ≡ line ∷ more)) [
-      | true ↦ ([], lines_of bs, refl)
-      | false ↦ onto_some b (lines_of bs)
+later_than : (limit given : ℕ) (lines : List (List ℕ)) (k : ℕ) → first_refused limit given lines ≡ Some k → given < k
+later_than limit given [] k h = absurd cc
+later_than limit given (l ∷ ls) k h =
+    elim (later_some (nat_lt limit (length l) || nat_le LINES given) (given + 1) k (first_refused limit (given + 1) ls) h) [
+      | inl now ↦ (let is = now.1 in omega (arith, is))
+      | inr rest ↦ (let more = later_than limit (given + 1) ls k rest.1 in omega (arith, more))
     ]
 
-pub many_refused : (given : ℕ) (ahead : List ℕ) → given ≡ LINES → ahead ≢ [] → (line_refused given (lines_of ahead) ≡ Some (LINES + 1)) × (lines_done given (lines_of ahead) ≡ [])
-many_refused given ahead full some =
-    let first = some_line ahead some in
-    let test : nat_le LINES given ≡ true = grind (arith, nat_tests) in
-    let both = refused_first given (lines_of ahead) first.0 first.1 first.2 (ap (λ t. cond t Refused (reading_of first.0)) test) in
-    (both.0 ∙ ap (λ k. Some (k + 1)) full, both.1)
+-- a line that is too long, or behind too many
+either_refused : (long many : Bool) (other : Reading) → (long || many) ≡ true → cond many Refused (cond long Refused other) ≡ Refused
+either_refused true true other h = refl
+either_refused true false other h = refl
+either_refused false true other h = refl
+either_refused false false other h = absurd cc
 
-behind_some : (xs ys : List ℕ) → xs ≢ [] → xs ++ ys ≢ []
-behind_some [] ys some is = some refl
-behind_some (x ∷ xs) ys some is = cc
+over_refused : (given : ℕ) (line : List ℕ) → (nat_lt LINE_BYTES (length line) || nat_le LINES given) ≡ true → reading_behind given line ≡ Refused
+unfolding reading_of
+over_refused given line h = either_refused (nat_lt LINE_BYTES (length line)) (nat_le LINES given) (cond (is_skipped line) Skipped (reading_with (line_of line))) h
+
+-- a reader refuses the next line
+refused_now : (given : ℕ) (lines : List (List ℕ)) → first_refused LINE_BYTES given lines ≡ Some (given + 1) → (line_refused given lines ≡ Some (given + 1)) × (lines_done given lines ≡ [])
+refused_now given [] h = absurd cc
+refused_now given (l ∷ ls) h =
+    elim (later_some (nat_lt LINE_BYTES (length l) || nat_le LINES given) (given + 1) (given + 1) (first_refused LINE_BYTES (given + 1) ls) h) [
+      | inl now ↦ (
+          let is = over_refused given l now.0 in
+          (ap (λ r. refused_with (given + 1) r (line_refused (given + 1) ls)) is, ap (λ r. done_with (given + 1) r (lines_done (given + 1) ls)) is))
+      | inr rest ↦ (let more = later_than LINE_BYTES (given + 1) ls (given + 1) rest.1 in absurd (omega (arith, more)))
+    ]
+
+-- what a reader says where it gave a line
+pub gives_next : (some : Bool) (ahead line rest : List ℕ) → some ≡ true → IsNext script_lines_of ahead some line rest → script_lines_of ahead ≡ line ∷ script_lines_of rest
+gives_next true ahead line rest t h = h
+gives_next false ahead line rest t h = absurd cc
 
 -- a reader's fault, by what it says of it
-pub refuses_ahead : (given limit : ℕ) (pending left ahead : List ℕ) (fault : LineFault) → limit ≡ LINE_BYTES → pending ++ left ≡ ahead
-    → ((line : ℕ) → fault ≡ TooLong line → (line ≡ given + 1) × StartsLong limit (pending ++ left)) → (fault ≡ TooMany → (given ≡ LINES) × (pending ≢ []))
-    → RefusesAhead given (lines_of ahead) fault
-refuses_ahead given limit pending left ahead (TooLong line) limited same long many =
+pub refuses_ahead : (given limit : ℕ) (lines : List (List ℕ)) (fault : LineFault) → limit ≡ LINE_BYTES → Refuses fault (first_refused limit given lines)
+    → ((line : ℕ) → fault ≡ TooLong line → line ≡ given + 1) → (fault ≡ TooMany → given ≡ LINES) → RefusesAhead given lines fault
+refuses_ahead given limit lines (TooLong line) limited refused long many =
     let is = long line refl in
-    let both = long_refused given ahead (subst (λ k. StartsLong k ahead) limited (subst (StartsLong limit) same is.1)) in
-    (both.0 ∙ ap Some (sym is.0), both.1)
-refuses_ahead given limit pending left ahead TooMany limited same long many =
-    let is = many refl in
-    many_refused given ahead is.0 (subst (λ x. x ≢ []) same (behind_some pending left is.1))
-refuses_ahead given limit pending left ahead Read limited same long many = tt
+    let both = refused_now given lines (subst (λ k. first_refused k given lines ≡ Some (given + 1)) limited (refused ∙ ap Some is)) in
+    (both.0 ∙ ap Some (sym is), both.1)
+refuses_ahead given limit lines TooMany limited refused long many =
+    let is = ap (λ k. k + 1) (many refl) in
+    let both = refused_now given lines (subst (λ k. first_refused k given lines ≡ Some (given + 1)) limited (refused ∙ ap Some (sym is))) in
+    (both.0 ∙ ap Some is, both.1)
+refuses_ahead given limit lines Read limited refused long many = tt

@@ -14,7 +14,7 @@ use Rattle.cells_world.specs.declared.fault.ClusterError.{ClusterError}
 use Rattle.cells_world.specs.declared.fault.ClusterError.TheVariants.{DiskFailed, Memory as NoRoom, Damaged}
 use Rattle.cells_world.specs.declared.fault.Damage.TheVariants.{NotAJournal as NoJournal, BadEntry as RefusedEntry, ConfigLacks as LacksCell, EpochsSpent as SpentEpochs}
 use Rattle.cells_world.specs.declared.limits.TheConstants.{TAKES_A_LINE}
-use Rattle.cells_cli.specs.Lines.{lines_of}
+use Rattle.cells_cli.specs.ScriptLines.{script_lines_of}
 use Rattle.cells_cli.specs.Script.{Numbered, done_with, lines_done, line_refused, reading_of, refused_with}
 use Rattle.cells_cli.specs.Told.{Item, Telling, items_text, numbered, numbered_broken, telling_text}
 use Rattle.cells_cli.specs.Went.{Went}
@@ -111,7 +111,7 @@ DoesText w d n number text old new out out_now result =
 -- of all lines of a script
 abbrev pub DoesScript : {S W D N : Type 0} → SourceGhosts S → SinkGhosts W → DiskGhosts D → WireGhosts N → S → At D N → At D N → W → W → Result (Unit {0}) UpStop → Type 0
 DoesScript s w d n script old new out out_now result =
-    Does w d n s.tells (lines_done 0 (lines_of (s.left script))) (line_refused 0 (lines_of (s.left script))) old new out out_now (ended result)
+    Does w d n s.tells (lines_done 0 (script_lines_of (s.left script))) (line_refused 0 (script_lines_of (s.left script))) old new out out_now (ended result)
 
 -- So far all lines were answered: with those ahead, where so many stand before them, they are all that were wanted.
 pub record SoFar {W D N : Type 0} (w : SinkGhosts W) (d : DiskGhosts D) (n : WireGhosts N) (tells : Bool) (wanted : List Numbered) (refused : Option ℕ) (given : ℕ) (ahead : List (List ℕ)) (old now : At D N) (out out_now : W) : Type 0 where

@@ -9,6 +9,7 @@ use Rattle.cells_edge.specs.declared.wire.Wire.{Ghosts as WireGhosts}
 use Rattle.claim_map.specs.Registry.{Registry}
 use Rattle.disk_journal.specs.declared.disk.Disk.{Ghosts as DiskGhosts}
 use Rattle.cells_cli.specs.Lines.{lines_of}
+use Rattle.cells_cli.specs.ScriptLines.{script_lines_of}
 use Rattle.cells_cli.specs.Config.{Job, answers_lines, makes_files, does_lines, command_of, job_of, ReadsConfig, ReadsScript, UsesDisk, IsUp}
 use Rattle.cells_cli.specs.Installed.{IsInstalled, EndsInit, LeavesFiles}
 use Rattle.cells_cli.specs.Served.{IsServed, EndsService}
@@ -26,9 +27,14 @@ pub record Asked : Type 0 where
   pub job : Result Job Status
   pub lines : List (List ℕ)
 
+-- the lines of a script: where it is done over the service and the cells, LF drops a CR in front of it
+abbrev pub lines_for : Result Job Status → List ℕ → List (List ℕ)
+lines_for (Ok (does_lines registry)) script = script_lines_of script
+lines_for job script = lines_of script
+
 -- what the words ask, with these bytes of the configuration and of the script
 abbrev pub asked_by : List (String Global) → List ℕ → List ℕ → Asked
-asked_by words config script = record { job = job_of (command_of words) config; lines = lines_of script }
+asked_by words config script = record { job = job_of (command_of words) config; lines = lines_for (job_of (command_of words) config) script }
 
 -- the reports of any run that could write them whole: one that ends at once has its last line alone
 abbrev pub IsWhole : Result Job Status → List (List ℕ) → Status → List ℕ → Type 0

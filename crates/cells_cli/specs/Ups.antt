@@ -22,7 +22,7 @@ use Rattle.cells_world.specs.declared.fault.ClusterError.{ClusterError}
 use Rattle.cells_world.specs.declared.fault.Damage.{Damage}
 use Rattle.cells_world.specs.declared.fault.Damage.TheVariants.{NotAJournal as NoJournal, BadEntry as RefusedEntry, ConfigLacks as LacksCell, EpochsSpent as SpentEpochs}
 use Rattle.cells_cli.specs.Doing.{AreTold, IsBetween, IsWritten}
-use Rattle.cells_cli.specs.Lines.{lines_of}
+use Rattle.cells_cli.specs.ScriptLines.{script_lines_of}
 use Rattle.cells_cli.specs.Script.{Numbered, lines_done, line_refused}
 use Rattle.cells_cli.specs.Status.{last_line}
 use Rattle.cells_cli.specs.Told.{Item, Telling, lines_told, steps_told, telling_text}
@@ -62,7 +62,7 @@ WhereOpened other told T = (told ≡ nothing_told) ⊎ T
 -- the transitions told are such a run, from any world in order that the files stood for.
 pub record Ups {S W D N : Type 0} (s : SourceGhosts S) (w : SinkGhosts W) (d : DiskGhosts D) (n : WireGhosts N) (registry : Registry) (script : S) (out out_now : W) (disk disk_now : D) (wire wire_now : N) (status : Status) : Type 0 where
   pub told : Telling
-  pub lines : IsTrue s.tells → AreTold (lines_done 0 (lines_of (s.left script))) (line_refused 0 (lines_of (s.left script))) told status
+  pub lines : IsTrue s.tells → AreTold (lines_done 0 (script_lines_of (s.left script))) (line_refused 0 (script_lines_of (s.left script))) told status
   pub written : IsWritten w told out out_now status
   pub traces : IsTrue d.tells → StandsStill d disk disk_now → (start : ClaimMap) (world : World) →
       IsInOrder registry start world → AreConfigured registry world → IsOf registry (d.seen disk) world →
@@ -82,8 +82,8 @@ IsUpped lines status report = (told : Telling) × AreTold (lines_done 0 lines) (
 
 -- the script was read to its end and none of its lines is refused, or its first refused line is named
 abbrev pub EndsUpAt : List ℕ → List ℕ → Status → Type 0
-EndsUpAt script left End = (left ≡ []) × (line_refused 0 (lines_of script) ≡ None)
-EndsUpAt script left (Script line) = line_refused 0 (lines_of script) ≡ Some line
+EndsUpAt script left End = (left ≡ []) × (line_refused 0 (script_lines_of script) ≡ None)
+EndsUpAt script left (Script line) = line_refused 0 (script_lines_of script) ≡ Some line
 EndsUpAt script left other = Unit {0}
 
 -- what a read gave of the files at the start shows the damage that is named, where the disk tells its content and its count of faults stood still
@@ -114,8 +114,8 @@ EndsUp other = ⊥
 -- What a run with a script over this configuration comes to, with its report.
 pub record RunsUp {S W D N : Type 0} (s : SourceGhosts S) (w : SinkGhosts W) (d : DiskGhosts D) (n : WireGhosts N) (registry : Registry) (script script_now : S) (out out_now : W) (disk disk_now : D) (wire wire_now : N) (status : Status) : Type 0 where
   pub told : Telling
-  pub lines : IsTrue s.tells → AreTold (lines_done 0 (lines_of (s.left script))) (line_refused 0 (lines_of (s.left script))) told status
-  pub report : Writes w out out_now (IsReportOf s.tells (lines_done 0 (lines_of (s.left script))) (line_refused 0 (lines_of (s.left script))) told status)
+  pub lines : IsTrue s.tells → AreTold (lines_done 0 (script_lines_of (s.left script))) (line_refused 0 (script_lines_of (s.left script))) told status
+  pub report : Writes w out out_now (IsReportOf s.tells (lines_done 0 (script_lines_of (s.left script))) (line_refused 0 (script_lines_of (s.left script))) told status)
   pub traces : IsTrue d.tells → StandsStill d disk disk_now → (start : ClaimMap) (world : World) →
       IsInOrder registry start world → AreConfigured registry world → IsOf registry (d.seen disk) world →
       WhereOpened status told (Traces d n registry world told.items disk_now wire wire_now status)

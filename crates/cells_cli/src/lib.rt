@@ -29,6 +29,8 @@ mod lines;
 mod reading;
 mod replay;
 mod report;
+#[cfg(test)]
+mod run_tests;
 mod script_lines;
 mod service;
 mod status;
@@ -36,6 +38,8 @@ mod tellable;
 #[cfg(test)]
 mod tests;
 mod up;
+#[cfg(test)]
+mod up_tests;
 
 pub use command::{Command, finish, run};
 pub use config::{CONFIG_BYTES, ConfigFault};

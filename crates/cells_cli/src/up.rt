@@ -169,7 +169,7 @@ fn do_lines<S: Source, W: Sink, D: Disk, N: Wire, C: Clock>(
     ensures cause { HasItsCause S.Source W.Sink (EndsSo D.Disk disk.old disk.new) script.old script.new out.old out.new result }
     ensures later { (W.faults out.old ≤ W.faults out.new) × (D.faults disk.old ≤ D.faults disk.new) }
 {
-    while lines.next(script)? {
+    while lines.next_script_line(script)? {
         take_line(
             alloc,
             cluster,

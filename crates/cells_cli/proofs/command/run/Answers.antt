@@ -8,7 +8,7 @@ use Rattle.cells_cli.specs.Files.{AreDistinct}
 use Rattle.cells_cli.specs.Installed.{LeavesFiles}
 use Rattle.cells_cli.specs.Service.{start_with}
 use Rattle.cells_cli.specs.declared.config.Work.{Work}
-use Rattle.cells_cli.specs.Report.{asked_by, IsReport}
+use Rattle.cells_cli.specs.Report.{asked_by, lines_for, IsReport}
 use Rattle.cells_cli.proofs.Reported.{EndsWith, at_once, config_ends, config_other}
 use Rattle.claim_map.specs.Registry.{Registry}
 use Rattle.cells_cli.specs.Report.{WritesFrontOf}
@@ -44,7 +44,7 @@ returns-in-Ok-Answer-clause-report g c a b w =
     let reads : ReadsConfig (Some c.in-Some.command) → IsTrue g.A.Source.tells = λ h. a (subst ReadsConfig is h) in
     let own = subst (λ (work : Work). job_of (Some c.in-Some.command) config ≡ Ok (job_with work)) c.in-Ok-Answer.field-0-is (c.in-Ok-Answer.ensures.told reads) in
     let told = subst (λ (command : Option Command). job_of command config ≡ Ok (answers_lines (start_with c.in-Ok-Answer.service))) is own in
-    subst (λ (job : Result Job Status). (report : List ℕ) × IsReport (record { job = job; lines = lines_of (g.B.Source.left c.args.script.now) }) c.serve.result report × (g.W.Sink.written c.serve.new.out ≡ g.W.Sink.written c.args.out.now ++ report)) (sym told) (c.serve.ensures.report b w)
+    subst (λ (job : Result Job Status). (report : List ℕ) × IsReport (record { job = job; lines = lines_for job (g.B.Source.left c.args.script.now) }) c.serve.result report × (g.W.Sink.written c.serve.new.out ≡ g.W.Sink.written c.args.out.now ++ report)) (sym told) (c.serve.ensures.report b w)
 
 pub install-requires : goal.install-requires
 install-requires g c =
@@ -60,7 +60,7 @@ returns-in-Ok-Make-clause-report g c a b w =
     let told = subst (λ (command : Option Command). job_of command config ≡ Ok (makes_files c.in-Ok-Make.files.items)) is own in
     let same : job_of (command_of c.args.words.now) config ≡ Ok (makes_files c.deref.result.now) = subst (λ (files : List ℕ). job_of (command_of c.args.words.now) config ≡ Ok (makes_files files)) (sym c.deref.ensures.value) told in
     let lines = lines_of (g.B.Source.left c.args.script.now) in
-    subst (λ (job : Result Job Status). (report : List ℕ) × IsReport (record { job = job; lines = lines }) c.install.result report × (g.W.Sink.written c.install.new.out ≡ g.W.Sink.written c.args.out.now ++ report)) (sym same) (c.install.ensures.report lines w)
+    subst (λ (job : Result Job Status). (report : List ℕ) × IsReport (record { job = job; lines = lines_for job (g.B.Source.left c.args.script.now) }) c.install.result report × (g.W.Sink.written c.install.new.out ≡ g.W.Sink.written c.args.out.now ++ report)) (sym same) (c.install.ensures.report lines w)
 
 pub returns-in-Ok-Make-clause-made : goal.returns-in-Ok-Make-clause-made
 returns-in-Ok-Make-clause-made g c a t files asked =
@@ -88,7 +88,7 @@ returns-in-Ok-Run-clause-report g c a b w =
     let script = g.B.Source.left c.args.script.now in
     let runs = c.operate.ensures.runs in
     let p = runs.report w in
-    subst (λ (job : Result Job Status). (report : List ℕ) × IsReport (record { job = job; lines = lines_of script }) c.operate.result report × (g.W.Sink.written c.operate.new.out ≡ g.W.Sink.written c.args.out.now ++ report)) (sym told)
+    subst (λ (job : Result Job Status). (report : List ℕ) × IsReport (record { job = job; lines = lines_for job script }) c.operate.result report × (g.W.Sink.written c.operate.new.out ≡ g.W.Sink.written c.args.out.now ++ report)) (sym told)
     (p.0, is_report c.in-Ok-Run.registry script runs.told g.B.Source.tells b c.operate.result p.0 (runs.lines b) p.1, p.2)
 
 pub returns-in-Ok-Run-clause-made : goal.returns-in-Ok-Run-clause-made

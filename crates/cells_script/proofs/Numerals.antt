@@ -1,10 +1,10 @@
 -- What reading a number gives is the number that its digits write.
-use Rattle.std.proofs.Common.{◌≡◌, ℕ, ◌<◌, ◌≤◌, ◌^◌, true, false, Bool, ◌&&◌, List, length, refl, arith, rules, Option, Some, None, Result, Ok, Err, nat_le, not, ◌==◌, ◌||◌, ap, le-leb}
+use Rattle.std.proofs.Common.{◌≡◌, ℕ, ◌<◌, ◌≤◌, true, false, Bool, ◌&&◌, List, length, refl, arith, rules, Some, Result, Ok, Err, not, ◌==◌, ◌||◌, ap, le-leb}
 use Rattle.std.specs.Prelude.{slice_index}
 use Rattle.claim_types.specs.declared.limits.TheConstants.{GREATEST_NUMBER}
 use Rattle.std.specs.Char.{is_ascii_digit}
 use Rattle.std.specs.List.{list_all}
-use Rattle.std.specs.Result.{result_ok, OkIff}
+use Rattle.std.specs.Result.{result_ok}
 use Rattle.std.specs.Str.Parse.{ParsesUnsigned, digits_value}
 use Rattle.std.proofs.lemmas.Str.Parse.{IsNumeralModel, numerals_by_value, parse_digits}
 use Rattle.cells_script.specs.Numbers.{is_numeral, number_of}

@@ -1,5 +1,5 @@
 -- The words of a line that is made of words are such, and so is what stands behind some of them.
-use Rattle.std.proofs.Common.{◌≡◌, ◌≢◌, ℕ, suc, ◌+◌, ◌-◌, ◌<◌, ◌≤◌, zero, Bool, true, false, ◌&&◌, not, nat_le, cond, List, [], ◌∷◌, length, map, filter, drop, get_or, length-drop, Option, Some, None, Bor, refl, ap, sym, ◌∙◌, subst, rules, arith}
+use Rattle.std.proofs.Common.{◌≡◌, ℕ, suc, ◌<◌, ◌≤◌, zero, Bool, true, false, ◌&&◌, not, nat_le, cond, List, [], ◌∷◌, length, map, filter, drop, length-drop, Option, Some, None, Bor, refl, sym, subst, rules, arith}
 use Rattle.std.specs.List.{All, AllByRecursion, list_all, slice_split, onto_first}
 use Rattle.std.proofs.lemmas.Bool.{leb-true}
 use Rattle.std.proofs.lemmas.Str.{IsUtf8-from_ascii}
@@ -7,7 +7,7 @@ use Rattle.std.specs.Str.{IsUtf8}
 use Rattle.std.specs.Prelude.{slice_index}
 use Rattle.cells_script.specs.Lines.{line_with, line_of}
 use Rattle.cells_script.specs.Bounds.{IsWord, IsRest}
-use Rattle.cells_script.specs.Words.{is_space, is_visible, is_printable, is_word, is_all_printable, has_space_at_an_end, is_made_of_words, words_in, from_place, from_space, from_word, after_word, after_three_words}
+use Rattle.cells_script.specs.Words.{is_space, is_visible, is_printable, is_word, is_all_printable, has_space_at_an_end, is_made_of_words, words_in, from_place, from_space, after_word, after_three_words}
 use Rattle.cells_script.specs.declared.limits.TheConstants.{LINE_BYTES}
 
 both : (a b : Bool) → (a && b) ≡ true → (a ≡ true) × (b ≡ true)
@@ -98,14 +98,27 @@ rest_is line h =
     let m = made line h in
     rest_after _ (rest_after _ (rest_after line (record { not_too_long = m.0; printable = m.1 })))
 
--- such a line is a text
+-- such a line is a text, and so is a word, and the rest of a line
 small : (bs : List ℕ) (k : ℕ) → list_all is_printable bs ≡ true → slice_index bs k < 128
 small [] k h = omega arith
 small (b ∷ bs) zero h = grind (arith, (both (is_printable b) (list_all is_printable bs) h).0)
 small (b ∷ bs) (suc k) h = small bs k (both (is_printable b) (list_all is_printable bs) h).1
 
+printable : (bs : List ℕ) → list_all is_visible bs ≡ true → list_all is_printable bs ≡ true
+printable [] h = refl
+printable (b ∷ bs) h =
+    let p = both (is_visible b) (list_all is_visible bs) h in
+    let q : is_printable b ≡ true = grind (arith, p.0) in
+    rw q (printable bs p.1)
+
 pub utf8_is : (line : List ℕ) → is_made_of_words line ≡ true → IsUtf8 line
 utf8_is line h = IsUtf8-from_ascii line (λ k. small line k (made line h).1)
+
+pub words_are_utf8 : (word : List ℕ) → IsWord word → IsUtf8 word
+words_are_utf8 word is = IsUtf8-from_ascii word (λ k. small word k (printable word is.visible))
+
+pub rests_are_utf8 : (rest : List ℕ) → IsRest rest → IsUtf8 rest
+rests_are_utf8 rest is = IsUtf8-from_ascii rest (λ k. small rest k is.printable)
 
 -- and it is the line with these words
 pub line_is : (line cookie : List ℕ) (words : List (Bor (List ℕ))) → is_made_of_words line ≡ true → cookie ≡ after_three_words line

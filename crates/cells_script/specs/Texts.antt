@@ -1,5 +1,5 @@
 -- The texts of answers, notes and transitions. Each is a name, and words behind it that each follow a space.
-use Rattle.std.specs.Prelude.{ℕ, List, [], ◌∷◌, ◌++◌, codes, decimal, Option, Some, None}
+use Rattle.std.specs.Prelude.{ℕ, List, [], ◌∷◌, ◌++◌, codes, decimal, Some, None}
 use Rattle.uuid.specs.Text.{hyphenated_text, lower}
 use Rattle.claim_types.specs.Leases.{lease_bytes}
 use Rattle.claim_types.specs.Names.{bucket_name}

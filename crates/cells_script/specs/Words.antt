@@ -1,5 +1,5 @@
 -- The words of a line: runs of visible bytes, with one space or more between two of them.
-use Rattle.std.specs.Prelude.{ℕ, ◌+◌, ◌==◌, ◌-◌, ◌&&◌, ◌||◌, Bool, not, nat_le, List, [], length, filter, drop, slice_index, position, Option, Some, None}
+use Rattle.std.specs.Prelude.{ℕ, ◌==◌, ◌-◌, ◌&&◌, ◌||◌, Bool, not, nat_le, List, [], length, filter, drop, slice_index, position, Option, Some, None}
 use Rattle.std.specs.List.{slice_split, list_all}
 use Rattle.cells_script.specs.declared.limits.TheConstants.{LINE_BYTES}
 

@@ -81,7 +81,7 @@ module _ (cell : ℕ) (tree : Tree) (a : Agent) where
   sends_bounds is_cell (Committed lease Unknown) is = λ r there. absurd (nowhere r there)
   sends_bounds is_cell (Committed lease WasRolledBack) is = λ r there. absurd (nowhere r there)
   sends_bounds is_cell (RolledBack lease result) is = λ r there. absurd (nowhere r there)
-  sends_bounds is_cell (Leases of page) is = listed is_cell page (λ l there. All-contained IsLease page.leases is.1 l there)
+  sends_bounds is_cell (Leases of page) is = listed is_cell page (λ l there. All-contained IsLease page.leases l is.1 there)
   sends_bounds is_cell (Ranged of number (RangedGood low high)) is = ranged (record { cell = of; number = number; low = low; high = high }) (nat_eq of cell && is_next a.known (record { cell = of; number = number; low = low; high = high }))
   sends_bounds is_cell (Ranged of number UnknownCell) is = λ r there. absurd (nowhere r there)
   sends_bounds is_cell (Ranged of number (TooFar next)) is = λ r there. absurd (nowhere r there)

@@ -10,6 +10,8 @@ use Rattle.disk_journal.proofs.Entries.{stands_in}
 use Rattle.disk_journal.proofs.Moments.{OnlyNow, started, joins, weaker}
 use Rattle.cells_edge.specs.declared.wire.Packet.{Packet as WirePacket}
 use Rattle.cells_edge.specs.declared.wire.Wire.{Ghosts as WireGhosts}
+use Rattle.claim_map.proofs.Configured.{wide_of}
+use Rattle.claim_map.specs.Bounds.{AreCells}
 use Rattle.claim_map.specs.Legal.{Message}
 use Rattle.claim_map.specs.Registry.{Registry, cell_of}
 use Rattle.claim_map.specs.State.{ClaimMap}
@@ -31,7 +33,7 @@ use Rattle.cells_world.specs.Packets.{spelled}
 use Rattle.cells_world.specs.Post.{packets_of, IsSentAt, WasNotSent}
 use Rattle.cells_world.specs.World.{IsIn, IsOf, IsOfEither, IsReached, At, at as moment, AreGiven, IsHandOver, Goes, HandsOver, HandsAt, Leads}
 use Rattle.cells_world.specs.declared.cluster.Cluster.{Cluster}
-use Rattle.cells_world.proofs.Served.{kept_on_file}
+use Rattle.cells_world.proofs.Served.{ready_is_of}
 
 pub run_append : (registry : Registry) (es fs : List Event) (w : World) → run registry (es ++ fs) w ≡ run registry fs (run registry es w)
 run_append registry [] fs w = refl
@@ -71,20 +73,6 @@ all_append : (es fs : List Event) → AllByRecursion IsHandOver es → AllByRecu
 all_append [] fs all more = more
 all_append (e ∷ es) fs all more = (all.0, all_append es fs all.1 more)
 
--- between calls every image stands for the world
-pub ready_is_of : {D : Type 0} (g : Ghosts D) (d : D) (c : Cluster) (w : World) → IsReady g d c → IsTrue g.tells → IsIn c w → (img : Image) → IsImage (g.may_leave d) img → IsOf c.registry img w
-ready_is_of g d c w ready tells is_in img is = record {
-  service = subst (λ s. Stands service img SERVICE_FILE s) (sym is_in.service)
-      (subst (λ q. Stands service img q (kept c.service.state)) ready.service.node.file (stands_in g service d (keeper c.service) tells ready.service.at_rest img (λ q own. is q)));
-  stores = λ id known. (let found = ready.agents.there id known in subst (λ q. Stands (store q) img q (store_at w q)) found.2 (one found.0 found.1));
-}
-  where
-    one : (a : CellAgent) → Contains c.cells.items a → Stands (store a.store.cell) img a.store.cell (store_at w a.store.cell)
-    one a inside =
-        subst (λ s. Stands (store a.store.cell) img a.store.cell s) (sym (kept_on_file w a (is_in.cells a inside)))
-        (subst (λ q. Stands (store a.store.cell) img q (stored a.store)) (ready.cells a inside).agent.store.file
-        (stands_in g (store a.store.cell) d (store_keeper a.store) tells (ready.cells a inside).at_rest img (λ q own. is q)))
-
 module _ {D N : Type 0} (g : Ghosts D) (n : WireGhosts N) where
   goes_on : (registry : Registry) (w : World) (a b c : At D N) (es fs : List Event) → Goes g n registry w a b es → Goes g n registry (run registry es w) b c fs → Goes g n registry w a c (es ++ fs)
   goes_on registry w a b c es fs first second = record {
@@ -99,11 +87,11 @@ module _ {D N : Type 0} (g : Ghosts D) (n : WireGhosts N) where
   }
 
   -- THE LOOP: what hands packets over from one moment to a second and from there to a third, does so from the first to the third.
-  pub hands_on : (a b c : At D N) → b.cluster.registry ≡ a.cluster.registry → HandsOver g n a b → HandsOver g n b c → HandsOver g n a c
-  hands_on a b c same first second start w order is_in =
+  pub hands_on : (a b c : At D N) → b.cluster.registry ≡ a.cluster.registry → AreCells a.cluster.registry → HandsOver g n a b → HandsOver g n b c → HandsOver g n a c
+  hands_on a b c same cells first second start w order is_in =
       let registry = a.cluster.registry in
       let one = first start w order is_in in
-      let order_then = run-in_order registry start one.0 w order in
+      let order_then = run-in_order registry start (λ cell id found. wide_of registry cells cell id found) one.0 w order in
       let two = second start (run registry one.0 w) (subst (λ r. IsInOrder r start (run registry one.0 w)) (sym same) order_then) one.2.now in
       (one.0 ++ two.0, all_append one.0 two.0 one.1 two.1, goes_on registry w a b c one.0 two.0 one.2 (subst (λ r. Goes g n r (run registry one.0 w) b c two.0) same two.2))
 
@@ -156,13 +144,13 @@ module _ {D N : Type 0} (g : Ghosts D) (n : WireGhosts N) (a : At D N) (b : Clus
   -- a packet that was sent here is handed to its receiver
   pub hands_sent : (place : ℕ) (c : At D N) (v : N) → IsSentAt a.cluster.post place given → HandsAt g place (moment b a.disk v) c → (IsTrue n.tells → n.handed c.wire ≡ n.handed a.wire ++ given ∷ []) → HandsOver g n a c
   unfolding happens
-  hands_sent place c v found hands handed start w order is_in =
+  hands_sent place c v found handing handed start w order is_in =
       let registry = a.cluster.registry in
       let p = found.0 in
       let in_place : slice_get w.sent place ≡ Some p = ap (λ ps. slice_get ps place) is_in.sent ∙ found.1 in
       let was_sent : (x : Message) → Some p.message ≡ Some x → WasSent w.sent x = λ x same. (p, at_place w.sent place p in_place, cc) in
       let then_order = hands_over registry start w (Some p.message) was_sent order in
-      let leads = hands p (ap (λ ps. slice_get ps place) one.sent ∙ found.1) start (with_handed (Some p.message) w) (subst (λ r. IsInOrder r start (with_handed (Some p.message) w)) (sym one.registry) then_order) (counted_in a.cluster b w (Some p.message) is_in one) in
+      let leads = handing p (ap (λ ps. slice_get ps place) one.sent ∙ found.1) start (with_handed (Some p.message) w) (subst (λ r. IsInOrder r start (with_handed (Some p.message) w)) (sym one.registry) then_order) (counted_in a.cluster b w (Some p.message) is_in one) in
       let comes : happens registry w (hands place) ≡ after_message b.registry (place + 1) p.message (with_handed (Some p.message) w) =
           ap (λ o. after_packet registry (place + 1) o w) in_place ∙ ap (λ r. after_message r (place + 1) p.message (with_handed (Some p.message) w)) (sym one.registry) in
       (hands place ∷ [], (tt, tt), record {

@@ -41,19 +41,23 @@ use Rattle.disk_journal.specs.Disk.{Image}
 use Rattle.disk_journal.specs.Entries.{HasEntries, Stands, Rests, HasTheseOr, AppendsAtMost}
 use Rattle.disk_journal.specs.Journal.{IsOwn}
 use Rattle.disk_journal.proofs.Entries.{stands_in}
-use Rattle.disk_journal.proofs.Moments.{weaker}
+use Rattle.disk_journal.proofs.Moments.{OnlyNow, started, weaker}
 use Rattle.cells_base.specs.Lists.{with_entry}
 use Rattle.claim_service.specs.Node.{service, keeper}
 use Rattle.claim_service.specs.State.{kept}
 use Rattle.claim_service.specs.declared.limits.TheConstants.{SERVICE_FILE}
+use Rattle.claim_service.specs.declared.node.TopologyNode.{TopologyNode}
+use Rattle.claim_types.specs.declared.limits.TheConstants.{GREATEST_CELL}
+use Rattle.claim_types.specs.declared.message.Reply.TheVariants.{Begun, Committed, RolledBack, Leases, Ranged, Claims, Classified, Page, NoCell}
 use Rattle.cell_store.specs.Store.{store, stored, keeper as store_keeper}
 use Rattle.reconciler.specs.Agent.{kept_by, heard_by}
 use Rattle.reconciler.specs.declared.agent.CellAgent.{CellAgent}
-use Rattle.cells_world.specs.Cluster.{IsReady, PutsOne, noted_by, traced_by}
+use Rattle.cells_world.specs.Cluster.{IsReady, Lacks, PutsOne, noted_by, traced_by}
+use Rattle.cells_world.specs.Packets.{address_of_reply}
 use Rattle.cells_world.specs.Post.{packets_of}
 use Rattle.cells_world.specs.World.{IsIn, IsCellIn, IsOf, IsOfEither, at as moment, Leads}
 use Rattle.cells_world.specs.declared.cluster.Cluster.{Cluster}
-use Rattle.cells_world.proofs.Served.{SameBeside, steps_beside, steps_trace, kept_on_file}
+use Rattle.cells_world.proofs.Served.{SameBeside, steps_beside, steps_trace, kept_on_file, ready_is_of}
 
 -- a note changes nothing else
 record SameButNotes (v w : World) : Type 0 where
@@ -199,7 +203,7 @@ module _ {D N : Type 0} (g : Ghosts D) (old new : Cluster) (d e : D) (m n : N) (
 
   in_then : IsIn new then_at
   in_then = record {
-    service = then_service ∙ is_in.service ∙ ap (λ s. kept (Rattle.claim_service.specs.declared.node.TopologyNode.TopologyNode.state s)) (sym service_same);
+    service = then_service ∙ is_in.service ∙ ap (λ (s : TopologyNode). kept s.state) (sym service_same);
     cells = λ a there. ⊎_elim (λ same. subst (IsCellIn then_at) (sym same) is_now) (λ other. is_other a other.0 other.1) (puts.each a there);
     only = only_now;
     sent = ap (λ ps. ps ++ list_map packet_of h.sends) (noted_then.sent ∙ beside.sent ∙ is_in.sent) ∙ sym sent;
@@ -215,7 +219,7 @@ module _ {D N : Type 0} (g : Ghosts D) (old new : Cluster) (d e : D) (m n : N) (
   service_apart q own mine =
       let positive = (ready.cells k inside).agent.store.cell.0 in
       let file = file_of in
-      let zero_is = ready.service.node.file in
+      let zero_is = ready.service.is.file in
       omega (arith, positive, file, zero_is, own, mine)
 
   cell_apart : (a : CellAgent) → Contains old.cells.items a → a.store.cell ≢ cell → (q : ℕ) → IsOwn a.store.journal.file q → IsOwn k.store.journal.file q → ⊥
@@ -228,7 +232,7 @@ module _ {D N : Type 0} (g : Ghosts D) (old new : Cluster) (d e : D) (m n : N) (
       whole : (x : World) → service_of x.claims ≡ service_of w.claims → ((q : ℕ) → q ≢ cell → store_at x q ≡ store_at w q) → Stands (store cell) img cell (store_at x cell) → IsOf registry img x
       whole x same_service same here = record {
         service = subst (λ s. Stands service img SERVICE_FILE s) (sym (same_service ∙ is_in.service))
-            (subst (λ q. Stands service img q (kept old.service.state)) ready.service.node.file
+            (subst (λ q. Stands service img q (kept old.service.state)) ready.service.is.file
             (stands_in g service d (keeper old.service) tells ready.service.at_rest img (λ q own. is.others q (λ mine. service_apart q own mine))));
         stores = λ id known. (let found = ready.agents.there id known in
             subst (λ q. Stands (store q) img q (store_at x q)) found.2 (one found.0 found.1 (same_or_other nat_cmp_total nat_cmp-IsAntisymmetric found.0.store.cell cell)));
@@ -260,4 +264,62 @@ module _ {D N : Type 0} (g : Ghosts D) (old new : Cluster) (d e : D) (m n : N) (
     now = in_then;
     moments = λ tells. (let rest = (ready.cells k inside).at_rest tells in
         weaker g d e (HasTheseOr g (store cell) d k.store.journal.file rest.0 h.entry) (IsOfEither registry w then_at) (any_moment rest.0 rest.1) (reached tells rest.0 rest.1) tells);
+  }
+
+-- the cell that a reply is addressed to is the one that it goes to in the world, if its number is that of a cell
+pub receiver_is : (reply : Reply) (cell : ℕ) → 1 ≤ cell → cell ≤ GREATEST_CELL → cell ≡ address_of_reply reply → cell ≡ receiver reply
+receiver_is (Begun lease result) cell least most is = is
+receiver_is (Committed lease result) cell least most is = is
+receiver_is (RolledBack lease result) cell least most is = is
+receiver_is (Leases of page) cell least most is = is
+receiver_is (Ranged of number result) cell least most is = is
+receiver_is (Claims of bucket first last behind page) cell least most is = is
+receiver_is (NoCell of) cell least most is = is
+receiver_is (Classified question class) cell least most is = absurd (omega (arith, most, is))
+receiver_is (Page of path named found) cell least most is = absurd (omega (arith, most, is))
+
+pub addressed_is : (reply : Reply) (cell : ℕ) → 1 ≤ cell → cell ≡ receiver reply → cell ≡ address_of_reply reply
+addressed_is (Begun lease result) cell least is = is
+addressed_is (Committed lease result) cell least is = is
+addressed_is (RolledBack lease result) cell least is = is
+addressed_is (Leases of page) cell least is = is
+addressed_is (Ranged of number result) cell least is = is
+addressed_is (Claims of bucket first last behind page) cell least is = is
+addressed_is (NoCell of) cell least is = is
+addressed_is (Classified question class) cell least is = absurd (omega (arith, least, is))
+addressed_is (Page of path named found) cell least is = absurd (omega (arith, least, is))
+
+-- what a cell of the world does with a reply
+pub reply_comes : (c : Cluster) (w : World) (k : CellAgent) (reply : Reply) → IsCellIn w k → k.store.cell ≡ receiver reply → after_reply (receiver reply) (map.get w.agents (receiver reply)) reply w ≡ after_heard k.store.cell (heard_by k reply) w
+reply_comes c w k reply is of_cell =
+    ap (λ q. after_reply q (map.get w.agents q) reply w) (sym of_cell)
+    ∙ ap (λ o. after_reply k.store.cell o reply w) is.agent
+    ∙ ap (λ t. after_heard k.store.cell (hears k.store.cell t (kept_by k) reply) w) is.tree
+
+-- nobody hears a reply to a cell that there is not
+module _ {D N : Type 0} (g : Ghosts D) (old new : Cluster) (d : D) (m : N) (reply : Reply) (only_now : OnlyNow g) (ready : IsReady g d old) (lacks : Lacks old.cells.items (address_of_reply reply))
+    (service_same : new.service ≡ old.service) (cells_same : new.cells.items ≡ old.cells.items) (post_same : new.post ≡ old.post)
+    (trace : new.trace.items ≡ old.trace.items) (notes : new.notes.items ≡ old.notes.items) (takes : new.takes ≡ old.takes)
+    (w : World) (is_in : IsIn old w) where
+  nobody : (o : Option Agent) → map.get w.agents (receiver reply) ≡ o → after_reply (receiver reply) o reply w ≡ w
+  nobody None is = refl
+  nobody (Some x) is =
+      let found = is_in.only (receiver reply) x is in
+      absurd (lacks found.0 found.1 (addressed_is reply found.0.store.cell (ready.cells found.0 found.1).agent.store.cell.0 found.2))
+
+  stays_in : IsIn new w
+  stays_in = record {
+    service = is_in.service ∙ ap (λ (s : TopologyNode). kept s.state) (sym service_same);
+    cells = λ a there. is_in.cells a (subst (λ as_all. Contains as_all a) cells_same there);
+    only = λ cell x there. (let was = is_in.only cell x there in (was.0, subst (λ as_all. Contains as_all was.0) (sym cells_same) was.1, was.2));
+    sent = is_in.sent ∙ ap packets_of (sym post_same);
+    trace = is_in.trace ∙ sym trace;
+    notes = is_in.notes ∙ sym notes;
+    takes = is_in.takes ∙ sym takes;
+  }
+
+  pub nobody_leads : Leads g w (after_message old.registry 0 (answer reply) w) (moment old d m) (moment new d m)
+  nobody_leads = record {
+    now = subst (IsIn new) (sym (nobody (map.get w.agents (receiver reply)) refl)) stays_in;
+    moments = λ tells. started g d (IsOfEither old.registry w (after_message old.registry 0 (answer reply) w)) only_now (λ img is. inl (ready_is_of g d old w ready tells is_in img is));
   }

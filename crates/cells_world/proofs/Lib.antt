@@ -6,3 +6,6 @@ pub mod Ready
 pub mod Places
 pub mod Asked
 pub mod Sending
+pub mod Openings
+pub mod Posted
+pub mod Acting

@@ -25,10 +25,10 @@ module _ {X : Type 0} where
   set_other (z ∷ zs) (suc n) (suc m) x apart = set_other zs n m x (λ same. apart (ap suc same))
 
   -- a member stands somewhere
-  somewhere : (xs : List X) (y : X) → Contains xs y → (k : ℕ) × (slice_get xs k ≡ Some y)
+  pub somewhere : (xs : List X) (y : X) → Contains xs y → (k : ℕ) × (slice_get xs k ≡ Some y)
   somewhere xs y there = (there.0, slice_get-get_or xs there.0 y there.1 ∙ ap Some there.2)
 
-same_some : {X : Type 0} (x y : X) → Some x ≡ Some y → x ≡ y
+pub same_some : {X : Type 0} (x y : X) → Some x ≡ Some y → x ≡ y
 same_some x y is = cc
 
 module _ (registry : Registry) (cells : List CellAgent) (n : ℕ) (k now : CellAgent) (agents : AreAgentsOf registry cells) (here : slice_get cells n ≡ Some k) (same : now.store.cell ≡ k.store.cell) where

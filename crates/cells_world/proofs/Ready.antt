@@ -28,9 +28,9 @@ module _ {D : Type 0} (g : Ghosts D) (d e : D) where
 
   service_on : (file : ℕ) (old : Cluster) → 1 ≤ file → TouchesOnly g file d e → IsServing g d old.service → IsServing g e old.service
   service_on file old positive touches ready = record {
-    node = ready.node;
+    is = ready.is;
     live = ready.live;
-    at_rest = rests_on g service d e file (keeper old.service) (λ q own mine. (let zero_is = ready.node.file in omega (arith, own, mine, zero_is, positive))) touches.elsewhere ready.at_rest;
+    at_rest = rests_on g service d e file (keeper old.service) (λ q own mine. (let zero_is = ready.is.file in omega (arith, own, mine, zero_is, positive))) touches.elsewhere ready.at_rest;
   }
 
   module _ (old new : Cluster) (ready : IsReady g d old) (registry : new.registry ≡ old.registry) (packets : ArePackets new.post) where
@@ -39,6 +39,7 @@ module _ {D : Type 0} (g : Ghosts D) (d e : D) where
     ready_served cells serving touches = record {
       configured = subst Rattle.claim_map.specs.Bounds.AreCells (sym registry) ready.configured;
       agents = subst (λ r. AreAgentsOf r new.cells.items) (sym registry) (subst (AreAgentsOf old.registry) (sym cells) ready.agents);
+      thresholds = λ a there. ready.thresholds a (subst (λ as_all. Contains as_all a) cells there) ∙ ap (λ (r : Registry). r.threshold) (sym registry);
       service = serving;
       cells = λ a there. (
           let was = ready.cells a (subst (λ as_all. Contains as_all a) cells there) in
@@ -48,10 +49,14 @@ module _ {D : Type 0} (g : Ghosts D) (d e : D) where
     }
 
     -- an agent's call was made
-    pub ready_heard : (k now : CellAgent) → Contains old.cells.items k → now.store.cell ≡ k.store.cell → new.service ≡ old.service → PutsOne old.cells.items now new.cells.items → AreAgentsOf old.registry new.cells.items → IsAgentReady g e now → TouchesOnly g k.store.cell d e → IsReady g e new
-    ready_heard k now inside same service_same puts agents is_ready touches = record {
+    pub ready_heard : (k now : CellAgent) → Contains old.cells.items k → now.store.cell ≡ k.store.cell → now.threshold ≡ k.threshold → new.service ≡ old.service → PutsOne old.cells.items now new.cells.items → AreAgentsOf old.registry new.cells.items → IsAgentReady g e now → TouchesOnly g k.store.cell d e → IsReady g e new
+    ready_heard k now inside same threshold service_same puts agents is_ready touches = record {
       configured = subst Rattle.claim_map.specs.Bounds.AreCells (sym registry) ready.configured;
       agents = subst (λ r. AreAgentsOf r new.cells.items) (sym registry) agents;
+      thresholds = λ a there. ⊎_elim
+          (λ (is : a ≡ now). ap (λ (x : CellAgent). x.threshold) is ∙ threshold ∙ ready.thresholds k inside)
+          (λ other. ready.thresholds a other.0)
+          (puts.each a there) ∙ ap (λ (r : Registry). r.threshold) (sym registry);
       service = subst (IsServing g e) (sym service_same) (service_on k.store.cell old (ready.cells k inside).agent.store.cell.0 touches ready.service);
       cells = λ a there. ⊎_elim
           (λ (is : a ≡ now). subst (IsAgentReady g e) (sym is) is_ready)

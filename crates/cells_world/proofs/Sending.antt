@@ -8,7 +8,7 @@ use Rattle.cells_world.specs.Post.{packets_of, Sends}
 use Rattle.cells_world.specs.declared.post.Post.{Post}
 
 spelled_append : (k : ℕ) (ps qs : List Packet) → spelled_from k (ps ++ qs) ≡ spelled_from k ps ++ spelled_from (k + length ps) qs
-spelled_append k [] qs = let e : k ≡ k + length ([] {A = Packet}) = omega arith in ap (λ n. spelled_from n qs) e
+spelled_append k [] qs = let e : k ≡ k + 0 = omega arith in ap (λ n. spelled_from n qs) e
 spelled_append k (p ∷ ps) qs =
     let e : (k + 1) + length ps ≡ k + length (p ∷ ps) = omega arith in
     ap (λ x. spelled k p ∷ x) (spelled_append (k + 1) ps qs ∙ ap (λ n. spelled_from (k + 1) ps ++ spelled_from n qs) e)
@@ -21,14 +21,17 @@ puts_spelled : (k : ℕ) (ps : List Packet) (armed : List ℕ) → after_puts (s
 puts_spelled k [] armed = refl
 puts_spelled k (p ∷ ps) armed = puts_spelled (k + 1) ps (after_put armed)
 
+through_one : (b : Bool) (x : WirePacket) (all xs ys : List WirePacket) → all ≡ xs ++ ys → cond b all (x ∷ all) ≡ cond b xs (x ∷ xs) ++ ys
+through_one true x all xs ys is = is
+through_one false x all xs ys is = ap (λ z. x ∷ z) is
+
 through_append : (armed : List ℕ) (xs ys : List WirePacket) → let_through armed (xs ++ ys) ≡ let_through armed xs ++ let_through (after_puts xs armed) ys
 through_append armed [] ys = refl
-through_append armed (x ∷ xs) ys = go (is_lost armed)
-  where
-    go : (b : Bool) → cond b (let_through (after_put armed) (xs ++ ys)) (x ∷ let_through (after_put armed) (xs ++ ys))
-        ≡ cond b (let_through (after_put armed) xs) (x ∷ let_through (after_put armed) xs) ++ let_through (after_puts xs (after_put armed)) ys
-    go true = through_append (after_put armed) xs ys
-    go false = ap (λ z. x ∷ z) (through_append (after_put armed) xs ys)
+through_append armed (x ∷ xs) ys = through_one (is_lost armed) x (let_through (after_put armed) (xs ++ ys)) (let_through (after_put armed) xs) (let_through (after_puts xs (after_put armed)) ys) (through_append (after_put armed) xs ys)
+
+pub append_nil : {X : Type 0} (xs : List X) → xs ≡ xs ++ []
+append_nil [] = refl
+append_nil (x ∷ xs) = ap (λ ys. x ∷ ys) (append_nil xs)
 
 module _ {N : Type 0} (n : Ghosts N) where
   pub sends_on : (a b c : N) (p q r : Post) (ps qs : List Packet) → Sends n a b p q ps → Sends n b c q r qs → Sends n a c p r (ps ++ qs)
@@ -47,10 +50,6 @@ module _ {N : Type 0} (n : Ghosts N) where
         ∙ ap (λ x. n.sent a ++ let_through armed x) (sym (spelled_append k ps qs)));
     armed = second.armed ∙ ap (after_puts qs) first.armed ∙ sym (puts_append ps qs p.armed.items);
   }
-
-  append_nil : {X : Type 0} (xs : List X) → xs ≡ xs ++ []
-  append_nil [] = refl
-  append_nil (x ∷ xs) = ap (λ ys. x ∷ ys) (append_nil xs)
 
   -- nothing was sent
   pub sends_nothing : (a b : N) (p q : Post) → packets_of q ≡ packets_of p → q.armed.items ≡ p.armed.items → (IsTrue n.tells → n.sent b ≡ n.sent a) → Sends n a b p q []

@@ -1,5 +1,5 @@
 -- A request that is handed to the service: from the clauses of its node's call to the world after it.
-use Rattle.std.proofs.Common.{◌≡◌, ◌≢◌, ◌⊎◌, inl, inr, ⊎_elim, ℕ, ◌+◌, ◌≤◌, IsTrue, List, [], ◌∷◌, ◌++◌, length, Option, Some, None, refl, sym, ◌∙◌, ap, subst, arith}
+use Rattle.std.proofs.Common.{◌≡◌, ◌≢◌, ◌⊎◌, inl, inr, ⊎_elim, ℕ, ◌+◌, ◌≤◌, true, IsTrue, List, [], ◌∷◌, ◌++◌, length, Option, Some, None, refl, sym, ◌∙◌, ap, subst, arith}
 use Rattle.std.specs.Prelude.{map as list_map, unwrap_or, IsSome}
 use Rattle.std.specs.List.{Contains, slice_get}
 use Rattle.std.specs.FinMap as map
@@ -26,7 +26,7 @@ use Rattle.claim_laws.specs.World.{Packet, World, idle_agent, agent_of}
 use Rattle.claim_laws.proofs.Moved.{due_trees, fresh_follows, steps_claims, steps_agents}
 use Rattle.claim_laws.proofs.Turns.{service_goes_on}
 use Rattle.disk_journal.specs.declared.disk.Disk.{Ghosts}
-use Rattle.disk_journal.specs.Disk.{Image}
+use Rattle.disk_journal.specs.Disk.{Image, IsImage}
 use Rattle.disk_journal.specs.Effects.{AreApart}
 use Rattle.disk_journal.specs.Entries.{HasEntries, Stands, Rests, HasTheseOr, AppendsAtMost, TouchesOnly}
 use Rattle.disk_journal.specs.Journal.{IsOwn}
@@ -83,6 +83,20 @@ steps_trace (Some step) w trace takes count same = ap (λ t. t ++ record { take 
 -- what a cell of the cluster keeps on its file is what the world says
 pub kept_on_file : (w : World) (a : CellAgent) → IsCellIn w a → store_at w a.store.cell ≡ stored a.store
 kept_on_file w a is = ap (λ t. store_of t (agent_of w.agents a.store.cell)) is.tree ∙ ap (λ o. store_of (stored a.store).tree (unwrap_or o idle_agent)) is.agent
+
+-- between calls every image stands for the world
+pub ready_is_of : {D : Type 0} (g : Ghosts D) (d : D) (c : Cluster) (w : World) → IsReady g d c → IsTrue g.tells → IsIn c w → (img : Image) → IsImage (g.may_leave d) img → IsOf c.registry img w
+ready_is_of g d c w ready tells is_in img is = record {
+  service = subst (λ s. Stands service img SERVICE_FILE s) (sym is_in.service)
+      (subst (λ q. Stands service img q (kept c.service.state)) ready.service.is.file (stands_in g service d (keeper c.service) tells ready.service.at_rest img (λ q own. is q)));
+  stores = λ id known. (let found = ready.agents.there id known in subst (λ q. Stands (store q) img q (store_at w q)) found.2 (one found.0 found.1));
+}
+  where
+    one : (a : CellAgent) → Contains c.cells.items a → Stands (store a.store.cell) img a.store.cell (store_at w a.store.cell)
+    one a inside =
+        subst (λ s. Stands (store a.store.cell) img a.store.cell s) (sym (kept_on_file w a (is_in.cells a inside)))
+        (subst (λ q. Stands (store a.store.cell) img q (stored a.store)) (ready.cells a inside).agent.store.file
+        (stands_in g (store a.store.cell) d (store_keeper a.store) tells (ready.cells a inside).at_rest img (λ q own. is q)))
 
 module _ {D N : Type 0} (g : Ghosts D) (old new : Cluster) (d e : D) (m n : N) (place : ℕ) (request : Request) (owes : Due)
     (ready : IsReady g d old)
@@ -151,7 +165,7 @@ module _ {D N : Type 0} (g : Ghosts D) (old new : Cluster) (d e : D) (m n : N) (
   }
 
   file : old.service.journal.file ≡ SERVICE_FILE
-  file = ready.service.node.file
+  file = ready.service.is.file
 
   -- a cell's journal is on another file
   apart : (a : CellAgent) → Contains old.cells.items a → (q : ℕ) → IsOwn a.store.journal.file q → IsOwn old.service.journal.file q → ⊥

@@ -36,6 +36,7 @@ pub record AreAgentsOf (registry : Registry) (cells : List CellAgent) : Type 0 w
 pub record IsReady {D : Type 0} (g : Ghosts D) (d : D) (c : Cluster) : Type 0 where
   pub configured : AreCells c.registry
   pub agents : AreAgentsOf c.registry c.cells.items
+  pub thresholds : (a : CellAgent) → Contains c.cells.items a → a.threshold ≡ c.registry.threshold
   pub service : IsServing g d c.service
   pub cells : (a : CellAgent) → Contains c.cells.items a → IsAgentReady g d a
   pub packets : ArePackets c.post
@@ -62,3 +63,25 @@ pub record PutsOne (before : List CellAgent) (k : CellAgent) (now : List CellAge
   pub put : Contains now k
   pub each : (a : CellAgent) → Contains now a → (a ≡ k) ⊎ (Contains before a × (a.store.cell ≢ k.store.cell))
   pub others : (a : CellAgent) → Contains before a → a.store.cell ≢ k.store.cell → Contains now a
+
+-- nothing but what was sent, and what the line waits for, has changed
+pub record SendsOnly (before now : Cluster) : Type 0 where
+  pub registry : now.registry ≡ before.registry
+  pub service : now.service ≡ before.service
+  pub cells : now.cells.items ≡ before.cells.items
+  pub trace : now.trace ≡ before.trace
+  pub notes : now.notes ≡ before.notes
+  pub takes : now.takes ≡ before.takes
+  pub waited : now.waited ≡ before.waited
+
+-- what the event of a line leaves as it was
+pub record IsSameBeside (before now : Cluster) : Type 0 where
+  pub registry : now.registry ≡ before.registry
+  pub trace : now.trace ≡ before.trace
+  pub takes : now.takes ≡ before.takes
+
+-- what handing packets over never changes
+pub record IsSameCluster (before now : Cluster) : Type 0 where
+  pub registry : now.registry ≡ before.registry
+  pub takes : now.takes ≡ before.takes
+  pub waited : now.waited ≡ before.waited

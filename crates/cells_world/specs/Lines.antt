@@ -1,17 +1,16 @@
 -- What the lines of a script bring about: the event of a line, and then packets that are handed over.
-use Rattle.std.specs.Prelude.{◌≡◌, ◌≤◌, ◌<◌, ◌⊎◌, ℕ, ◌+◌, IsTrue, IsSome, List, [], ◌∷◌, ◌++◌, length, min, Option, Some, None, is_some, if◌then◌else◌}
+use Rattle.std.specs.Prelude.{◌≡◌, ◌≤◌, ◌<◌, ◌⊎◌, ℕ, ◌+◌, IsTrue, IsSome, List, [], ◌∷◌, ◌++◌, length, min, Option, Some, None}
 use Rattle.std.specs.List.{AllByRecursion, Contains}
 use Rattle.std.specs.FinMap as map
 use Rattle.disk_journal.specs.declared.disk.Disk.{Ghosts}
 use Rattle.cells_edge.specs.declared.wire.Wire.{Ghosts as WireGhosts}
 use Rattle.claim_types.specs.declared.limits.TheConstants.{GREATEST_NUMBER}
 use Rattle.claim_types.specs.declared.record.Change.{Change}
-use Rattle.claim_map.specs.Registry.{Registry, cell_of}
 use Rattle.claim_map.specs.State.{ClaimMap, tree_of}
-use Rattle.claim_laws.specs.Events.{Event, asks, requests, reconciles, hands, strays}
+use Rattle.claim_laws.specs.Events.{Event, asks, requests, reconciles, run}
 use Rattle.claim_laws.specs.Facts.{IsInOrder}
-use Rattle.claim_laws.specs.Nodes.{ask_range}
-use Rattle.claim_laws.specs.World.{World, agent_of}
+use Rattle.claim_laws.specs.Nodes.{Agent, ask_range}
+use Rattle.claim_laws.specs.World.{World}
 use Rattle.cells_script.specs.declared.line.Line.{Line}
 use Rattle.cells_script.specs.declared.line.Line.TheVariants.{CreateOrganization, CreateUser, CreateTopGroup, CreateGroup, CreateProject, CreateKey, CreateAddress, CreateDomain, Rename, Remove, Range, Reconcile, Lose, Repeat, Wait}
 use Rattle.reconciler.specs.Agent.{kept_by}
@@ -43,18 +42,24 @@ abbrev pub asks_of : World → ℕ → Line → Option ℕ → List Event
 asks_of w now line (Some cell) = asks_for cell now (change_wanted line (tree_of w.claims cell))
 asks_of w now line None = []
 
--- the range that a line asks for, where the configuration has its cell
-abbrev pub range_of : Registry → World → ℕ → Option ℕ → List Event
-range_of registry w cell number = if is_some (cell_of registry cell) then requests (ask_range cell (agent_of w.agents cell) number) ∷ [] else []
+-- a cell asks for a range, where there is such a cell
+abbrev pub asks_range : ℕ → Option ℕ → Option Agent → List Event
+asks_range cell number None = []
+asks_range cell number (Some a) = requests (ask_range cell a number) ∷ []
 
 -- the event of a line itself, in the world at its start and at this moment
-abbrev pub own_events : Registry → World → ℕ → Line → List Event
-own_events registry w now (Range cell number) = range_of registry w cell number
-own_events registry w now (Reconcile cell) = reconciles cell now ∷ []
-own_events registry w now (Lose number) = []
-own_events registry w now (Repeat tag) = []
-own_events registry w now (Wait seconds) = []
-own_events registry w now line = asks_of w now line (cell_of_change line)
+abbrev pub own_events : World → ℕ → Line → List Event
+own_events w now (Range cell number) = asks_range cell number (map.get w.agents cell)
+own_events w now (Reconcile cell) = reconciles cell now ∷ []
+own_events w now (Lose number) = []
+own_events w now (Repeat tag) = []
+own_events w now (Wait seconds) = []
+own_events w now line = asks_of w now line (cell_of_change line)
+
+-- What a line does of itself, from any world in order that the cluster is in: its own event, and nothing to the files.
+abbrev pub Acts : ℕ → Line → Cluster → Cluster → Type 0
+Acts now line old new =
+    (start : ClaimMap) (w : World) → IsInOrder old.registry start w → IsIn old w → IsIn new (run old.registry (own_events w now line) w)
 
 -- the lines that are built so far: those of changes, ranges, reconciliations, and of the wire and the clock
 abbrev pub IsBuilt : Line → Type 0
@@ -70,16 +75,16 @@ abbrev pub moment_of : Cluster → ℕ → ℕ
 moment_of c now = min (now + c.waited) GREATEST_NUMBER
 
 -- the events of a line: its own, and then packets that are handed over
-pub record AreOf (registry : Registry) (w : World) (now : ℕ) (line : Line) (es : List Event) : Type 0 where
+pub record AreOf (w : World) (now : ℕ) (line : Line) (es : List Event) : Type 0 where
   pub taken : List Event
-  pub all : es ≡ own_events registry w now line ++ taken
+  pub all : es ≡ own_events w now line ++ taken
   pub hand_over : AllByRecursion IsHandOver taken
 
 -- What a line that is answered brings about, from any world in order that the cluster is in.
 abbrev pub Follows : {D N : Type 0} → Ghosts D → WireGhosts N → ℕ → Line → At D N → At D N → Type 0
 Follows g n now line old new =
     (start : ClaimMap) (w : World) → IsInOrder old.cluster.registry start w → IsIn old.cluster w →
-    (es : List Event) × AreOf old.cluster.registry w (moment_of old.cluster now) line es × Goes g n old.cluster.registry w old new es
+    (es : List Event) × AreOf w (moment_of old.cluster now) line es × Goes g n old.cluster.registry w old new es
 
 -- each cell has drawn fewer attempts in its epoch
 abbrev pub DrewFewer : ℕ → Cluster → Type 0

@@ -14,6 +14,10 @@ use Rattle.claim_laws.specs.World.{World}
 use Rattle.claim_service.specs.Opening.{IsOpenFault as IsServiceFault}
 use Rattle.claim_service.specs.declared.limits.TheConstants.{SERVICE_FILE}
 use Rattle.claim_service.specs.declared.opening.ServiceOpenFault.TheVariants as of_service
+use Rattle.std.specs.FinMap as map
+use Rattle.cell_store.specs.Store.{stored, IsStore, AreRowsEarlier, Rests}
+use Rattle.cell_store.specs.declared.store.CellStore.{CellStore}
+use Rattle.reconciler.specs.Kept.{kept_with}
 use Rattle.cell_store.specs.Opening.{IsOpenFault as IsCellFault}
 use Rattle.cell_store.specs.declared.fault.CellOpenFault.TheVariants as of_cell
 use Rattle.reconciler.specs.Agent.{kept_by}
@@ -44,16 +48,53 @@ pub record IsNew (c : Cluster) : Type 0 where
   pub waited : c.waited ≡ 0
   pub drawn : (a : CellAgent) → Contains c.cells.items a → (kept_by a).drawn ≡ 0
 
+-- what the service's file shows
+abbrev pub ShowsOfService : Registry → Image → Damage → Type 0
+ShowsOfService registry img (NotAJournal at) = IsServiceFault registry img (of_service.NotAJournal at)
+ShowsOfService registry img (BadEntry index) = IsServiceFault registry img (of_service.BadEntry index)
+ShowsOfService registry img (ConfigLacks cell) = IsServiceFault registry img (of_service.ConfigLacks cell)
+ShowsOfService registry img EpochsSpent = ⊥
+
+-- what a cell's file shows
+abbrev pub ShowsOfCell : ℕ → Image → Damage → Type 0
+ShowsOfCell cell img (NotAJournal at) = IsCellFault cell img (of_cell.NotAJournal at)
+ShowsOfCell cell img (BadEntry index) = IsCellFault cell img (of_cell.BadEntry index)
+ShowsOfCell cell img (ConfigLacks other) = ⊥
+ShowsOfCell cell img EpochsSpent = IsCellFault cell img of_cell.EpochsSpent
+
+-- Why the service's file was not opened: calls of the disk on it failed; or, where the count stood still, what a read gave of it at the start.
+abbrev pub IsServiceEnd : {D T : Type 0} → Ghosts D → Registry → D → D → Result T ClusterError → Type 0
+IsServiceEnd g registry old new (Ok node) = Unit {0}
+IsServiceEnd g registry old new (Err (DiskFailed file)) = (file ≡ SERVICE_FILE) × FailedAt g file old new
+IsServiceEnd g registry old new (Err Memory) = Unit {0}
+IsServiceEnd g registry old new (Err (Damaged file fault)) = (file ≡ SERVICE_FILE) × (IsTrue g.tells → StandsStill g old new → ShowsOfService registry (g.seen old) fault)
+
+-- why a cell's file was not opened
+abbrev pub IsCellEnd : {D T : Type 0} → Ghosts D → ℕ → D → D → Result T ClusterError → Type 0
+IsCellEnd g cell old new (Ok store) = Unit {0}
+IsCellEnd g cell old new (Err (DiskFailed file)) = (file ≡ cell) × FailedAt g file old new
+IsCellEnd g cell old new (Err Memory) = Unit {0}
+IsCellEnd g cell old new (Err (Damaged file fault)) = (file ≡ cell) × (IsTrue g.tells → StandsStill g old new → ShowsOfCell cell (g.seen old) fault)
+
 -- what a read gives of a file shows this damage
 abbrev pub IsDamage : Registry → Image → ℕ → Damage → Type 0
-IsDamage registry img file (NotAJournal at) = ((file ≡ SERVICE_FILE) × IsServiceFault registry img (of_service.NotAJournal at)) ⊎ IsCellFault file img (of_cell.NotAJournal at)
-IsDamage registry img file (BadEntry index) = ((file ≡ SERVICE_FILE) × IsServiceFault registry img (of_service.BadEntry index)) ⊎ IsCellFault file img (of_cell.BadEntry index)
-IsDamage registry img file (ConfigLacks cell) = (file ≡ SERVICE_FILE) × IsServiceFault registry img (of_service.ConfigLacks cell)
-IsDamage registry img file EpochsSpent = IsCellFault file img of_cell.EpochsSpent
+IsDamage registry img file fault = ((file ≡ SERVICE_FILE) × ShowsOfService registry img fault) ⊎ ShowsOfCell file img fault
 
 -- Why an opening came to nothing: calls of the disk on this file failed; or, where the count stood still, what the files showed at its start.
-abbrev pub IsOpenEnd : {D : Type 0} → Ghosts D → Registry → D → D → Result Cluster ClusterError → Type 0
+abbrev pub IsOpenEnd : {D T : Type 0} → Ghosts D → Registry → D → D → Result T ClusterError → Type 0
 IsOpenEnd g registry old new (Ok c) = Unit {0}
 IsOpenEnd g registry old new (Err (DiskFailed file)) = FailedAt g file old new
 IsOpenEnd g registry old new (Err Memory) = Unit {0}
 IsOpenEnd g registry old new (Err (Damaged file fault)) = IsTrue g.tells → StandsStill g old new → IsDamage registry (g.seen old) file fault
+
+-- a store that was just opened: it is live and at rest, and each row of it is of an earlier epoch
+pub record IsStoreReady {D : Type 0} (g : Ghosts D) (d : D) (cell : ℕ) (s : CellStore) : Type 0 where
+  pub of_cell : s.cell ≡ cell
+  pub store : IsStore s
+  pub earlier : AreRowsEarlier s
+  pub live : IsTrue s.journal.live
+  pub at_rest : Rests g d s
+
+-- what an agent keeps that was just opened
+abbrev pub IsIdle : CellAgent → Type 0
+IsIdle a = kept_by a ≡ kept_with (stored a.store) map.empty 0

@@ -44,6 +44,10 @@ pub record Sends {N : Type 0} (n : Ghosts N) (wire_old wire_new : N) (old new : 
   pub put : Puts n wire_old wire_new old (spelled_from (length (packets_of old)) packets)
   pub armed : new.armed.items ≡ after_puts packets old.armed.items
 
+-- some packets were
+abbrev pub SendsSome : {N : Type 0} → Ghosts N → N → N → Post → Post → Type 0
+SendsSome n wire_old wire_new old new = (packets : List Packet) × Sends n wire_old wire_new old new packets
+
 -- requests within their bounds
 abbrev pub AreRequests : List Request → Type 0
 AreRequests requests = (request : Request) → Contains requests request → IsRequest request

@@ -44,6 +44,6 @@ step_told asked false reply = step_unwritten reply
 
 -- a service that may be handed a request: it is live, and at rest on this disk
 pub record IsServing {D : Type 0} (g : Ghosts D) (d : D) (node : TopologyNode) : Type 0 where
-  pub node : IsNode node
+  pub is : IsNode node
   pub live : IsTrue node.journal.live
   pub at_rest : Rests g d node

@@ -1,31 +1,40 @@
 //! Service and cells on one disk, with a wire between them.
-ghost use Rattle.std.specs.Prelude.{◌≡◌, ◌≤◌, ◌<◌, ◌+◌, ◌^◌, ℕ, Bool, IsTrue, Some, IfSome, IfNone, IfOk, OnOk, OnErr, IsErrOf, length, vec_len, vec_capacity};
+ghost use Rattle.std.specs.Prelude.{◌≡◌, ◌≤◌, ◌<◌, ◌+◌, ◌-◌, ◌^◌, ◌++◌, ◌∷◌, [], ℕ, Bool, IsTrue, Some, IfSome, IfNone, IfOk, IfErr, OnOk, OnErr, IsErrOf, length, map as list_map, vec_len, vec_capacity};
 ghost use Rattle.std.specs.List.{slice_get};
 ghost use Rattle.claim_types.specs.declared.limits.TheConstants.{GREATEST_ATTEMPT};
 ghost use Rattle.claim_laws.specs.Bounded.{IsMessage};
 ghost use Rattle.disk_journal.specs.Effects.{FailedAt};
 ghost use Rattle.cells_world.specs.Packets.{message_of};
-ghost use Rattle.cells_world.specs.Post.{packets_of, ArePackets};
+ghost use Rattle.cells_world.specs.Post.{packets_of, ArePackets, Sends, SendsSome};
 ghost use Rattle.claim_service.specs.State.{kept};
 ghost use Rattle.std.specs.FinMap as map;
 ghost use Rattle.cells_world.specs.Ending.{GoesOn};
-ghost use Rattle.cells_world.specs.Lines.{DrewFewer, Follows, IsBuilt};
+ghost use Rattle.cells_world.specs.Lines.{Acts, DrewFewer, Follows, IsBuilt, cell_of_change};
+ghost use Rattle.cells_script.specs.declared.line.Line.TheVariants.{Range as LineRange, Reconcile};
+ghost use Rattle.claim_types.specs.MessageBounds.{IsRequest};
+ghost use Rattle.claim_types.specs.declared.rule.Note.TheVariants.{Ended as EndedNote};
+ghost use Rattle.claim_laws.specs.Acts.{packet_of as asked_packet};
+ghost use Rattle.claim_laws.specs.Nodes.{due_attempts, without_attempts};
+ghost use Rattle.reconciler.specs.Agent.{kept_by, IsAgent, IsSameAgent};
 ghost use Rattle.cells_world.specs.Opening.{IsNew, IsOpenEnd, Opens, StandsStill};
 ghost use Rattle.cells_world.specs.declared.limits.TheConstants.{MOST_TAKES, TAKES_A_LINE};
-ghost use Rattle.cells_world.specs.Cluster.{IsReady, IsPlaceOf, Lacks, noted_by, traced_by, IsEndOf};
+ghost use Rattle.cells_world.specs.Cluster.{IsReady, IsPlaceOf, Lacks, noted_by, traced_by, IsEndOf, IsSameBeside, IsSameCluster, SendsOnly};
 ghost use Rattle.cells_world.specs.World.{at as moment, HandsAt, HandsOver};
 
+use crate::course::Course;
 use crate::fault::ClusterError;
 use crate::hear::hear;
 use crate::limits::TAKES_A_LINE;
 use crate::message::{Message, receiver_of};
 use crate::post::Post;
 use crate::serve::serve;
+use crate::wanted::change_wanted;
 use cell_registry::Registry;
+use cells_base::NoMemory;
 use cells_edge::{Wire, WireError};
 use cells_script::{Answer, Line};
 use claim_service::TopologyNode;
-use claim_types::{Ended, Note, Step, Transition};
+use claim_types::{Ended, LeaseId, Note, Request, Rule, Step, Transition};
 use disk_journal::Disk;
 use reconciler::CellAgent;
 use std::alloc::Global;
@@ -42,6 +51,67 @@ pub struct Cluster {
     takes: u64,
     // Seconds, by the lines that wait.
     waited: u64,
+    course: Course,
+}
+
+// What the event of a line came to.
+#[derive(Drop)]
+enum Begun {
+    // The line is answered.
+    Told(Answer),
+    // A change was asked for, with this lease.
+    Asked(LeaseId),
+    // A range was asked for.
+    Range,
+    // A reconciliation began.
+    Reconciles,
+}
+
+// The cell of a line that asks for a change.
+fn cell_of_change(line: &Line) -> Option<u16>
+    ensures { result ≡ cell_of_change line.now }
+{
+    match line {
+        Line::CreateOrganization { cell, .. } => Some(*cell),
+        Line::CreateUser { cell, .. } => Some(*cell),
+        Line::CreateTopGroup { cell, .. } => Some(*cell),
+        Line::CreateGroup { cell, .. } => Some(*cell),
+        Line::CreateProject { cell, .. } => Some(*cell),
+        Line::CreateKey { cell, .. } => Some(*cell),
+        Line::CreateAddress { cell, .. } => Some(*cell),
+        Line::CreateDomain { cell, .. } => Some(*cell),
+        Line::Rename { cell, .. } => Some(*cell),
+        Line::Remove { cell, .. } => Some(*cell),
+        _ => None,
+    }
+}
+
+// What the event of a line came to, where it sent this request.
+fn begun_by(request: &Request) -> Begun {
+    match request {
+        Request::Begin { lease, .. } => Begun::Asked(*lease),
+        _ => Begun::Range,
+    }
+}
+
+// Ends the attempts of an agent that are due at this moment, each with a note.
+fn end_due(agent: &mut CellAgent, notes: &mut Vec<Note>, now: u64) -> Result<(), NoMemory>
+    requires agent { IsAgent agent.old }
+    ensures ended { OnOk result (kept_by agent.new
+        ≡ without_attempts (due_attempts agent.old.threshold now (kept_by agent.old)) (kept_by agent.old)) }
+    ensures notes { OnOk result (notes.new.items
+        ≡ notes.old.items ++ list_map (λ l. EndedNote l) (due_attempts agent.old.threshold now (kept_by agent.old))) }
+    ensures agent { IsAgent agent.new }
+    ensures store { agent.new.store ≡ agent.old.store }
+    ensures same { IsSameAgent agent.old agent.new }
+{
+    for _ in 0..agent.pending() {
+        let Some(lease) = agent.expire(now) else {
+            return Ok(());
+        };
+        notes.push(Note::Ended { lease })?;
+    }
+    Ok(())
 }
 
 // The place of the agent of a cell.
@@ -49,7 +119,12 @@ fn place_of(cells: &[CellAgent], cell: u16) -> Option<usize>
     ensures found { IfSome result (λ n. IsPlaceOf cells.now cell n) }
     ensures missing { IfNone result (Lacks cells.now cell) }
 {
-    cells.iter().position(|agent| agent.store().cell() == cell)
+    for (place, agent) in cells.iter().enumerate() {
+        if agent.store().cell() == cell {
+            return Some(place);
+        }
+    }
+    None
 }
 
 // Traces a step that this take brought about, if there is one.
@@ -77,69 +152,8 @@ fn note(notes: &mut Vec<Note>, ended: &Option<Ended>)
 }
 
 impl Cluster {
-    // The service answers the request in this place.
-    fn serve_at<D: Disk, N: Wire>(
-        &mut self,
-        alloc: Global,
-        disk: &mut D,
-        wire: &mut N,
-        at: usize,
-    ) -> Result<(), ClusterError>
-        requires ready { IsReady D.Disk disk.old self.old }
-        requires place { at < length self.old.post.sent.items }
-        ensures hands { OnOk result (HandsAt D.Disk at (moment self.old disk.old wire.old) (moment self.new disk.new wire.new)) }
-        ensures ready { OnOk result (IsReady D.Disk disk.new self.new) }
-        ensures failed { IsEndOf D.Disk disk.old disk.new result }
-        ensures handed { IsTrue N.tells → N.handed wire.new ≡ N.handed wire.old }
-        ensures takes { self.new.takes ≡ self.old.takes }
-        ensures later { (D.faults disk.old ≤ D.faults disk.new) × (N.faults wire.old ≤ N.faults wire.new) }
-    {
-        self.trace.reserve(1)?;
-        let Message::Ask(request) = self.post.sent()[at].message() else {
-            return Ok(());
-        };
-        let served = serve(alloc, disk, &mut self.service, &self.registry, request)?;
-        trace(&mut self.trace, self.takes, served.step);
-        self.post
-            .send(alloc, wire, Message::Answer(served.reply), at as u64 + 1)?;
-        Ok(())
-    }
-
-    // The cell that it is for hears the reply in this place, if there is such a cell.
-    fn hear_at<D: Disk, N: Wire>(
-        &mut self,
-        alloc: Global,
-        disk: &mut D,
-        wire: &mut N,
-        at: usize,
-        now: u64,
-    ) -> Result<(), ClusterError>
-        requires ready { IsReady D.Disk disk.old self.old }
-        requires place { at < length self.old.post.sent.items }
-        ensures hands { OnOk result (HandsAt D.Disk at (moment self.old disk.old wire.old) (moment self.new disk.new wire.new)) }
-        ensures ready { OnOk result (IsReady D.Disk disk.new self.new) }
-        ensures failed { IsEndOf D.Disk disk.old disk.new result }
-        ensures handed { IsTrue N.tells → N.handed wire.new ≡ N.handed wire.old }
-        ensures takes { self.new.takes ≡ self.old.takes }
-        ensures later { (D.faults disk.old ≤ D.faults disk.new) × (N.faults wire.old ≤ N.faults wire.new) }
-    {
-        let Message::Answer(reply) = self.post.sent()[at].message() else {
-            return Ok(());
-        };
-        let Some(place) = place_of(self.cells.as_slice(), receiver_of(reply)) else {
-            return Ok(());
-        };
-        self.trace.reserve(1)?;
-        self.notes.reserve(1)?;
-        let told = hear(alloc, disk, &mut self.cells[place], reply, now)?;
-        trace(&mut self.trace, self.takes, told.step);
-        note(&mut self.notes, &told.ended);
-        self.post
-            .send_requests(alloc, wire, told.to_send.into_vec())?;
-        Ok(())
-    }
-
-    // Hands the packet in this place to its receiver.
+    // Hands the packet in this place to its receiver: a request to the service, and a reply to the cell that it is for, if there
+    // is such a cell.
     fn hand<D: Disk, N: Wire>(
         &mut self,
         alloc: Global,
@@ -148,10 +162,38 @@ impl Cluster {
         at: usize,
         now: u64,
     ) -> Result<(), ClusterError>
+        requires ready { IsReady D.Disk disk.old self.old }
+        requires place { at < length self.old.post.sent.items }
+        ensures hands { OnOk result
+            (HandsAt D.Disk at (moment self.old disk.old wire.old) (moment self.new disk.new wire.new)) }
+        ensures sends { OnOk result (SendsSome N.Wire wire.old wire.new self.old.post self.new.post) }
+        ensures ready { OnOk result (IsReady D.Disk disk.new self.new) }
+        ensures end { IsEndOf D.Disk disk.old disk.new result }
+        ensures handed { IsTrue N.tells → N.handed wire.new ≡ N.handed wire.old }
+        ensures same { IsSameCluster self.old self.new }
+        ensures later { (D.faults disk.old ≤ D.faults disk.new) × (N.faults wire.old ≤ N.faults wire.new) }
     {
+        self.trace.reserve(1)?;
+        self.notes.reserve(1)?;
         match self.post.sent()[at].message() {
-            Message::Ask(_) => self.serve_at(alloc, disk, wire, at),
-            Message::Answer(_) => self.hear_at(alloc, disk, wire, at, now),
+            Message::Ask(request) => {
+                let served = serve(alloc, disk, &mut self.service, &self.registry, request)?;
+                trace(&mut self.trace, self.takes, served.step);
+                self.post
+                    .send(alloc, wire, Message::Answer(served.reply), at as u64 + 1)?;
+                Ok(())
+            }
+            Message::Answer(reply) => {
+                let Some(place) = place_of(self.cells.as_slice(), receiver_of(reply)) else {
+                    return Ok(());
+                };
+                let told = hear(alloc, disk, &mut self.cells[place], reply, now)?;
+                trace(&mut self.trace, self.takes, told.step);
+                note(&mut self.notes, &told.ended);
+                self.post
+                    .send_requests(alloc, wire, told.to_send.into_vec())?;
+                Ok(())
+            }
         }
     }
 
@@ -163,17 +205,33 @@ impl Cluster {
         wire: &mut N,
         now: u64,
     ) -> Result<bool, ClusterError>
+        requires ready { IsReady D.Disk disk.old self.old }
+        requires takes { self.old.takes < 2 ^ 63 - 1 }
+        ensures hands { OnOk result
+            (HandsOver D.Disk N.Wire (moment self.old disk.old wire.old) (moment self.new disk.new wire.new)) }
+        ensures sends { OnOk result (SendsSome N.Wire wire.old wire.new self.old.post self.new.post) }
+        ensures ready { OnOk result (IsReady D.Disk disk.new self.new) }
+        ensures end { IsEndOf D.Disk disk.old disk.new result }
+        ensures takes { self.new.takes ≤ self.old.takes + 1 }
+        ensures registry { self.new.registry ≡ self.old.registry }
+        ensures waited { self.new.waited ≡ self.old.waited }
+        ensures later { (D.faults disk.old ≤ D.faults disk.new) × (N.faults wire.old ≤ N.faults wire.new) }
     {
         let packet = match wire.take(alloc) {
             Ok(Some(packet)) => packet,
-            Ok(None) | Err(WireError::Failed) => return Ok(false),
+            Ok(None) => return Ok(false),
+            Err(WireError::Failed) => return Ok(false),
             Err(WireError::Memory) => return Err(ClusterError::Memory),
         };
         self.takes += 1;
-        if let Some(at) = self.post.place_of(&packet) {
-            self.hand(alloc, disk, wire, at, now)?;
+        match self.post.place_of(&packet) {
+            Some(at) => {
+                self.course = self.course.after(&self.post, at);
+                self.hand(alloc, disk, wire, at, now)?;
+                Ok(true)
+            }
+            None => Ok(true),
         }
-        Ok(true)
     }
 
     // Takes packets, until a take gives none or as many were taken as a line may take.
@@ -184,6 +242,17 @@ impl Cluster {
         wire: &mut N,
         now: u64,
     ) -> Result<(), ClusterError>
+        requires ready { IsReady D.Disk disk.old self.old }
+        requires takes { self.old.takes < 2 ^ 63 - TAKES_A_LINE }
+        ensures hands { OnOk result
+            (HandsOver D.Disk N.Wire (moment self.old disk.old wire.old) (moment self.new disk.new wire.new)) }
+        ensures sends { OnOk result (SendsSome N.Wire wire.old wire.new self.old.post self.new.post) }
+        ensures ready { OnOk result (IsReady D.Disk disk.new self.new) }
+        ensures end { IsEndOf D.Disk disk.old disk.new result }
+        ensures takes { self.new.takes ≤ self.old.takes + TAKES_A_LINE }
+        ensures registry { self.new.registry ≡ self.old.registry }
+        ensures waited { self.new.waited ≡ self.old.waited }
+        ensures later { (D.faults disk.old ≤ D.faults disk.new) × (N.faults wire.old ≤ N.faults wire.new) }
     {
         for _ in 0..TAKES_A_LINE {
             if !self.take_one(alloc, disk, wire, now)? {
@@ -191,6 +260,121 @@ impl Cluster {
             }
         }
         Ok(())
+    }
+
+    // Sends a request, whose reply the line waits for.
+    fn request<N: Wire>(
+        &mut self,
+        alloc: Global,
+        wire: &mut N,
+        request: Request,
+    ) -> Result<(), NoMemory>
+        requires packets { ArePackets self.old.post }
+        requires bounds { IsRequest request }
+        ensures sends { OnOk result (Sends N.Wire wire.old wire.new self.old.post self.new.post (asked_packet request ∷ [])) }
+        ensures packets { OnOk result (ArePackets self.new.post) }
+        ensures handed { IsTrue N.tells → N.handed wire.new ≡ N.handed wire.old }
+        ensures later { N.faults wire.old ≤ N.faults wire.new }
+        ensures same { SendsOnly self.old self.new }
+    {
+        self.post.send(alloc, wire, Message::Ask(request), 0)?;
+        self.course = Course::awaiting(self.post.sent().len() as u64);
+        Ok(())
+    }
+
+    // A cell asks for the range with this number, or for its next. Nobody is asked for number 0.
+    fn begin_range<D: Disk, N: Wire>(
+        &mut self,
+        alloc: Global,
+        disk: &D,
+        wire: &mut N,
+        cell: u16,
+        number: Option<u64>,
+    ) -> Result<Begun, NoMemory>
+        requires ready { IsReady D.Disk disk.now self.old }
+        ensures acts { OnOk result ((now : ℕ) → Acts now (LineRange cell number) self.old self.new) }
+        ensures ready { OnOk result (IsReady D.Disk disk.now self.new) }
+        ensures agents { self.new.cells.items ≡ self.old.cells.items }
+        ensures handed { IsTrue N.tells → N.handed wire.new ≡ N.handed wire.old }
+        ensures later { N.faults wire.old ≤ N.faults wire.new }
+        ensures same { IsSameBeside self.old self.new }
+    {
+        let Some(place) = place_of(self.cells.as_slice(), cell) else {
+            return Ok(Begun::Told(Answer::NoCell));
+        };
+        if number == Some(0) {
+            return Ok(Begun::Told(Answer::Waiting { lease: None }));
+        }
+        let request = self.cells.as_slice()[place].ask_range(number);
+        self.request(alloc, wire, request)?;
+        Ok(Begun::Range)
+    }
+
+    // A cell asks for the change that a line wants.
+    fn begin_change<D: Disk, N: Wire>(
+        &mut self,
+        alloc: Global,
+        disk: &D,
+        wire: &mut N,
+        cell: u16,
+        line: &Line,
+        now: u64,
+    ) -> Result<Begun, ClusterError>
+        requires ready { IsReady D.Disk disk.now self.old }
+        requires drawn { DrewFewer GREATEST_ATTEMPT self.old }
+        requires cell { cell_of_change line.now ≡ Some cell }
+        ensures acts { OnOk result (Acts now line.now self.old self.new) }
+        ensures ready { OnOk result (IsReady D.Disk disk.now self.new) }
+        ensures drawn { OnOk result ((most : ℕ) → DrewFewer most self.old → DrewFewer (most + 1) self.new) }
+        ensures end { IfErr result (λ e. e ≡ ClusterError.Memory) }
+        ensures handed { IsTrue N.tells → N.handed wire.new ≡ N.handed wire.old }
+        ensures later { N.faults wire.old ≤ N.faults wire.new }
+        ensures same { IsSameBeside self.old self.new }
+    {
+        let Some(place) = place_of(self.cells.as_slice(), cell) else {
+            return Ok(Begun::Told(Answer::NoCell));
+        };
+        let Some(change) = change_wanted(alloc, line, self.cells.as_slice()[place].store().tree())?
+        else {
+            return Ok(Begun::Told(Answer::NoCell));
+        };
+        match self.cells[place].ask_change(alloc, change, now) {
+            Ok(request) => {
+                let begun = begun_by(&request);
+                self.request(alloc, wire, request)?;
+                Ok(begun)
+            }
+            Err(Rule::Memory) => Err(ClusterError::Memory),
+            Err(rule) => Ok(Begun::Told(Answer::Refused { rule })),
+        }
+    }
+
+    // A cell begins a reconciliation: its attempts that are due end, and what it asks is sent.
+    fn begin_reconcile<D: Disk, N: Wire>(
+        &mut self,
+        alloc: Global,
+        disk: &D,
+        wire: &mut N,
+        cell: u16,
+        now: u64,
+    ) -> Result<Begun, NoMemory>
+        requires ready { IsReady D.Disk disk.now self.old }
+        ensures acts { OnOk result (Acts now (Reconcile cell) self.old self.new) }
+        ensures ready { OnOk result (IsReady D.Disk disk.now self.new) }
+        ensures drawn { OnOk result ((most : ℕ) → DrewFewer most self.old → DrewFewer most self.new) }
+        ensures handed { IsTrue N.tells → N.handed wire.new ≡ N.handed wire.old }
+        ensures later { N.faults wire.old ≤ N.faults wire.new }
+        ensures same { IsSameBeside self.old self.new }
+    {
+        let Some(place) = place_of(self.cells.as_slice(), cell) else {
+            return Ok(Begun::Told(Answer::NoCell));
+        };
+        let requests = self.cells.as_slice()[place].ask_reconcile(alloc)?;
+        end_due(&mut self.cells[place], &mut self.notes, now)?;
+        self.post
+            .send_requests(alloc, wire, requests.into_vec())?;
+        self.course = Course::awaiting(self.post.sent().len() as u64);
+        Ok(Begun::Reconciles)
     }
 
     /// The transitions, in order.

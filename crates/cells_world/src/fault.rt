@@ -1,4 +1,5 @@
 use cells_base::NoMemory;
+use std::alloc::AllocError;
 
 /// Why a cluster came to an end.
 #[derive(Clone, Copy, Debug, PartialEq, Eq)]
@@ -31,6 +32,17 @@ impl From<NoMemory> for ClusterError {
     ghost from_gives = { λ _ e. e ≡ Memory };
 
     fn from(_: NoMemory) -> Self {
+        ClusterError::Memory
+    }
+}
+
+impl From<AllocError> for ClusterError {
+    ghost use Rattle.cells_world.specs.declared.fault.ClusterError.TheVariants.{Memory};
+    ghost use Rattle.std.specs.Prelude.{◌≡◌};
+
+    ghost from_gives = { λ _ e. e ≡ Memory };
+
+    fn from(_: AllocError) -> Self {
         ClusterError::Memory
     }
 }

@@ -2,12 +2,15 @@
 #![tactic(auto)]
 
 mod cluster;
+mod course;
 mod fault;
 mod hear;
 mod limits;
 mod message;
+mod opening;
 mod post;
 mod serve;
+mod wanted;
 
 pub use cluster::Cluster;
 pub use fault::{ClusterError, Damage};

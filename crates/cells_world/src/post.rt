@@ -4,7 +4,7 @@ ghost use Rattle.std.specs.List.{slice_get};
 ghost use Rattle.claim_laws.specs.Bounded.{IsMessage};
 ghost use Rattle.claim_laws.specs.World.{Packet as SentPacket};
 ghost use Rattle.cells_world.specs.Packets.{message_of, spelled, is_lost, after_put, let_through};
-ghost use Rattle.cells_world.specs.Post.{packet_of, packets_of, ArePackets, IsSentAt, WasNotSent, Puts, Sends, AreRequests, RepeatsAt, armed_with};
+ghost use Rattle.cells_world.specs.Post.{packet_of, packets_of, ArePackets, IsSent, IsSentAt, WasNotSent, Puts, Sends, AreRequests, RepeatsAt, armed_with};
 ghost use Rattle.claim_laws.specs.Acts.{packet_of as asked_packet};
 ghost use Rattle.cells_world.specs.declared.post.Post.{Post as ThePost};
 
@@ -36,14 +36,15 @@ fn is_lost(armed: &[u64]) -> bool
     armed.iter().any(|k| *k == 1)
 }
 
-// Counts one put for all that is armed; what has come is armed no more.
-fn count_put(armed: &mut Vec<u64>)
-    ensures { armed.new.items ≡ after_put armed.old.items }
+// What is armed after one put: what has come is armed no more.
+fn after_put(alloc: Global, armed: &[u64]) -> Result<Vec<u64>, NoMemory>
+    ensures { IfOk result (λ rest. rest.items ≡ after_put armed.now) }
 {
-    armed.retain(|k| *k > 1);
-    for k in armed.iter_mut() {
-        *k -= 1;
-    }
+    Ok(armed
+        .iter()
+        .filter(|k| **k > 1)
+        .map(|k| k.saturating_sub(1))
+        .collect(alloc)?)
 }
 
 // Puts a packet on a wire. A put that failed counts as sent.
@@ -59,11 +60,36 @@ fn put_on<N: Wire>(alloc: Global, wire: &mut N, leg: Leg, bytes: &[u8]) -> Resul
     }
 }
 
+// A message in this place, as it is sent.
+fn sent_at(
+    alloc: Global,
+    place: u64,
+    message: Message,
+    answers: u64,
+) -> Result<Sent, NoMemory>
+    requires room { place < u64.MAX }
+    requires bounds { IsMessage (message_of message) }
+    ensures is { IfOk result (IsSent place) }
+    ensures packet { IfOk result (λ s. packet_of s ≡ record { message = message_of message; answers = answers }) }
+{
+    let bytes = message.text(alloc)?;
+    let leg = Leg {
+        to: message.address(),
+        tag: place + 1,
+        answers,
+    };
+    Ok(Sent {
+        leg,
+        bytes,
+        message,
+    })
+}
+
 impl Sent {
     // Whether a packet is this one.
     fn is(&self, packet: &Packet) -> bool
-        ensures { IsTrue result → packet.now ≡ record { leg = self.now.leg; bytes = self.now.bytes } }
-        ensures not { result ≡ false → packet.now ≢ record { leg = self.now.leg; bytes = self.now.bytes } }
+        ensures same { IsTrue result → packet.now ≡ record { leg = self.now.leg; bytes = self.now.bytes } }
+        ensures other { result ≡ false → packet.now ≢ record { leg = self.now.leg; bytes = self.now.bytes } }
     {
         if self.leg != packet.leg {
             return false;
@@ -116,11 +142,12 @@ impl Post {
             return None;
         }
         let place = packet.leg.tag - 1;
-        if place >= self.sent.len() as u64 {
+        let sent = self.sent.as_slice();
+        if place >= sent.len() as u64 {
             return None;
         }
         let at = place as usize;
-        if !self.sent[at].is(packet) {
+        if !sent[at].is(packet) {
             return None;
         }
         Some(at)
@@ -136,12 +163,12 @@ impl Post {
     ) -> Result<(), NoMemory>
         ensures put { OnOk result (Puts N.Wire wire.old wire.new self.old (record { leg = leg; bytes = bytes.now } ∷ [])) }
         ensures handed { IsTrue N.tells → N.handed wire.new ≡ N.handed wire.old }
-        ensures armed { self.new.armed.items ≡ after_put self.old.armed.items }
+        ensures armed { OnOk result (self.new.armed.items ≡ after_put self.old.armed.items) }
         ensures sent { self.new.sent ≡ self.old.sent }
         ensures later { N.faults wire.old ≤ N.faults wire.new }
     {
         let lost = is_lost(self.armed.as_slice());
-        count_put(&mut self.armed);
+        self.armed = after_put(alloc, self.armed.as_slice())?;
         if lost {
             return Ok(());
         }
@@ -165,19 +192,11 @@ impl Post {
         ensures handed { IsTrue N.tells → N.handed wire.new ≡ N.handed wire.old }
         ensures later { N.faults wire.old ≤ N.faults wire.new }
     {
-        let bytes = message.text(alloc)?;
-        let leg = Leg {
-            to: message.address(),
-            tag: self.sent.len() as u64 + 1,
-            answers,
-        };
+        let place = self.sent.as_slice().len() as u64;
+        let sent = sent_at(alloc, place, message, answers)?;
         self.sent.reserve(1)?;
-        self.put(alloc, wire, leg, bytes.as_slice())?;
-        self.sent.push_reserved(Sent {
-            leg,
-            bytes,
-            message,
-        });
+        self.put(alloc, wire, sent.leg, sent.bytes.as_slice())?;
+        self.sent.push_reserved(sent);
         Ok(())
     }
 
@@ -209,15 +228,17 @@ impl Post {
         wire: &mut N,
         at: usize,
     ) -> Result<(), NoMemory>
-        requires { at < length self.old.sent.items }
+        requires packets { ArePackets self.old }
+        requires place { at < length self.old.sent.items }
         ensures put { OnOk result (RepeatsAt N.Wire wire.old wire.new self.old at) }
-        ensures armed { self.new.armed.items ≡ after_put self.old.armed.items }
+        ensures armed { OnOk result (self.new.armed.items ≡ after_put self.old.armed.items) }
         ensures sent { self.new.sent ≡ self.old.sent }
         ensures handed { IsTrue N.tells → N.handed wire.new ≡ N.handed wire.old }
         ensures later { N.faults wire.old ≤ N.faults wire.new }
     {
-        let leg = self.sent[at].leg;
-        let bytes = self.sent[at].bytes.copy(alloc)?;
+        let sent = &self.sent.as_slice()[at];
+        let leg = sent.leg;
+        let bytes = sent.bytes.copy(alloc)?;
         self.put(alloc, wire, leg, bytes.as_slice())
     }
 
@@ -225,13 +246,14 @@ impl Post {
     pub fn lose(&mut self, number: u64) -> Result<(), NoMemory>
         ensures armed { OnOk result (self.new.armed.items ≡ armed_with number self.old.armed.items) }
         ensures sent { self.new.sent ≡ self.old.sent }
-        ensures err { OnErr result (self.new ≡ self.old) }
+        ensures err { OnErr result (self.new.armed.items ≡ self.old.armed.items) }
     {
+        self.armed.reserve(1)?;
         if number == 0 {
             self.armed.clear();
-            return Ok(());
+        } else {
+            self.armed.push_reserved(number);
         }
-        self.armed.push(number)?;
         Ok(())
     }
 }

@@ -124,6 +124,21 @@ fn step_written(asked: Option<Step>, reply: &Reply) -> Option<Step>
     }
 }
 
+// The step that a reply tells. It takes no memory where an entry was written.
+fn step_told(
+    alloc: Global,
+    asked: Option<Step>,
+    fresh: bool,
+    reply: &Reply,
+) -> Result<Option<Step>, NoMemory>
+    ensures { IfOk result (λ step. step ≡ step_told asked fresh reply.now) }
+{
+    if fresh {
+        return Ok(step_written(asked, reply));
+    }
+    step_unwritten(alloc, reply)
+}
+
 /// Has the service answer a request, and tells the step that this was. Whatever memory a step that is written down needs is
 /// taken before the call.
 pub fn serve<D: Disk>(
@@ -148,11 +163,7 @@ pub fn serve<D: Disk>(
 {
     let asked = step_asked(alloc, request)?;
     let handled = service.handle(alloc, disk, registry, request)?;
-    let step = if handled.fresh {
-        step_written(asked, &handled.reply)
-    } else {
-        step_unwritten(alloc, &handled.reply)?
-    };
+    let step = step_told(alloc, asked, handled.fresh, &handled.reply)?;
     Ok(Served {
         reply: handled.reply,
         step,

@@ -1,5 +1,5 @@
 //! The change that a line of a script asks for.
-ghost use Rattle.std.specs.Prelude.{◌≡◌, ◌≤◌, IfOk, IfSome, IfNone, None, length};
+ghost use Rattle.std.specs.Prelude.{◌≡◌, ◌≤◌, ◌==◌, IfOk, IfSome, length, position, reverse};
 ghost use Rattle.cells_world.specs.Wanted as spec;
 ghost use Rattle.claim_types.specs.declared.record.Change.TheVariants.{Create};
 
@@ -25,13 +25,22 @@ fn record_named(
     }
 }
 
+// How many bytes stand behind the last slash of a route, if it has one.
+fn behind_slash(route: &[u8]) -> Option<usize>
+    ensures { result ≡ position (λ b. b == 47) (reverse route.now) }
+{
+    route.iter().rev().position(|b| *b == b'/')
+}
+
 // The place behind the last slash of a route, if it has one.
 fn behind_last_slash(route: &[u8]) -> Option<usize>
     ensures value { result ≡ spec.behind_last_slash route.now }
     ensures within { IfSome result (λ at. (1 ≤ at) × (at ≤ length route.now)) }
 {
-    let back = route.iter().rev().position(|b| *b == b'/')?;
-    Some(route.len() - back)
+    match behind_slash(route) {
+        Some(count) => Some(route.len() - count),
+        None => None,
+    }
 }
 
 // A record of this kind at a route, below what stands before its last slash.

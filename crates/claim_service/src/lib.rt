@@ -38,3 +38,6 @@ pub use limits::SERVICE_FILE;
 pub use node::{Handled, NodeError, TopologyNode};
 pub use opening::ServiceOpenFault;
 pub use state::{Answered, ServiceState};
+
+#[cfg(test)]
+mod tests;

@@ -1,4 +1,4 @@
-use Rattle.std.proofs.Common.{sym, ◌∙◌}
+use Rattle.std.proofs.Common.{sym}
 use Rattle.cells_script.proofs.WordsRead.{utf8_is}
 use Rattle.cells_script.proofs.line.Line.read.Goals as goal
 

@@ -1,0 +1,211 @@
+use Rattle.std.proofs.Common.{◌≡◌, ◌<◌, ℕ, List, refl, sym, ◌∙◌, ap, subst, Some, length, get_or, ◌+◌, ◌++◌, ◌∷◌, [], arith}
+use Rattle.std.specs.Prelude.{map as list_map}
+use Rattle.std.specs.List.{Contains, slice_get}
+use Rattle.std.specs.Vec.{with_item}
+use Rattle.std.proofs.lemmas.Option.{slice_get_read, slice_get_within}
+use Rattle.cells_base.proofs.Members.{at_place}
+use Rattle.claim_types.specs.MessageBounds.{IsReply}
+use Rattle.claim_map.specs.Legal.{Message as Said, ask, answer}
+use Rattle.claim_map.proofs.Bounded.{due_bounds}
+use Rattle.claim_laws.specs.Acts.{packet_of, after_message}
+use Rattle.claim_laws.specs.Bounded.{IsMessage}
+use Rattle.claim_laws.specs.Files.{map_of}
+use Rattle.claim_laws.specs.World.{Packet}
+use Rattle.claim_service.specs.State.{kept, owed}
+use Rattle.cell_store.specs.Store.{stored}
+use Rattle.reconciler.specs.Agent.{kept_by, heard_by, IsReady as IsAgentReady}
+use Rattle.reconciler.specs.declared.agent.CellAgent.{CellAgent}
+use Rattle.cells_world.specs.Cluster.{traced_by, noted_by}
+use Rattle.cells_world.specs.Packets.{message_of, address_of_reply}
+use Rattle.cells_world.specs.Post.{packet_of as sent_packet, packets_of, ArePackets, AreRequests}
+use Rattle.cells_world.specs.World.{at as moment, Leads}
+use Rattle.cells_world.specs.declared.cluster.Cluster.{Cluster}
+use Rattle.cells_world.specs.declared.message.Message.{Message}
+use Rattle.cells_world.specs.declared.message.Message.TheVariants.{Ask as AsAsk, Answer as AsAnswer}
+use Rattle.cells_world.specs.declared.post.Post.{Post}
+use Rattle.cells_world.specs.declared.post.Sent.{Sent}
+use Rattle.cells_world.proofs.Asked.{sends_bounds}
+use Rattle.cells_world.proofs.Heard.{heard_leads, nobody_leads, receiver_is, reply_comes}
+use Rattle.cells_world.proofs.Places.{puts_set, agents_set, same_some}
+use Rattle.cells_world.proofs.Posted.{mapped}
+use Rattle.cells_world.proofs.Ready.{ready_served, ready_heard}
+use Rattle.cells_world.proofs.Served.{served_leads}
+use Rattle.cells_world.proofs.cluster.Cluster.hand.Goals as goal
+
+-- the packet of the place is the one that is handed over
+module _ (post : Post) (place : ℕ) (s : Sent) (within : place < length post.sent.items) (is : s ≡ get_or post.sent.items place s) where
+  in_place : slice_get post.sent.items place ≡ Some s
+  in_place = slice_get_read post.sent.items (length post.sent.items) place s refl within is
+
+  bounds_at : ArePackets post → (m : Message) → s.message ≡ m → IsMessage (message_of m)
+  bounds_at are m is_m = subst (λ (x : Message). IsMessage (message_of x)) is_m (are place s in_place).bounds
+
+  carries : (p : Packet) → slice_get (packets_of post) place ≡ Some p → (m : Message) → s.message ≡ m → p.message ≡ message_of m
+  carries p at_p m is_m =
+      let is_p : p ≡ sent_packet s = same_some p (sent_packet s) (sym at_p ∙ mapped sent_packet post.sent.items place s in_place) in
+      ap (λ (q : Packet). q.message) is_p ∙ ap message_of is_m
+
+-- the agent of the place
+module _ (cells : List CellAgent) (place : ℕ) (k a : CellAgent) (here : slice_get cells place ≡ Some a) (is : k ≡ get_or cells place k) where
+  agent_here : slice_get cells place ≡ Some k
+  agent_here = slice_get_read cells (length cells) place k refl (slice_get_within cells place a here) is
+
+  same_cell : k.store.cell ≡ a.store.cell
+  same_cell = ap (λ (x : CellAgent). x.store.cell) (same_some k a (sym agent_here ∙ here))
+
+pub serve-requires-clause-bounds : goal.serve-requires-clause-bounds
+serve-requires-clause-bounds g c =
+    bounds_at c.args.self.now.post c.args.at c.index-sent-at.result c.requires.place (c.index-sent-at.is ∙ ap (λ xs. get_or xs c.args.at c.index-sent-at.result) c.sent.ensures) c.requires.ready.packets (AsAsk c.in-Ask.request) (sym c.message.ensures ∙ c.in-Ask.is)
+
+pub send-requires-clause-bounds : goal.send-requires-clause-bounds
+send-requires-clause-bounds g c =
+    let is = bounds_at c.args.self.now.post c.args.at c.index-sent-at.result c.requires.place (c.index-sent-at.is ∙ ap (λ xs. get_or xs c.args.at c.index-sent-at.result) c.sent.ensures) c.requires.ready.packets (AsAsk c.in-Ask.request) (sym c.message.ensures ∙ c.in-Ask.is) in
+    subst IsReply (sym c.in_ok-served-in-Ask.ensures.reply) (due_bounds c.args.self.now.registry (map_of (kept c.args.self.now.service.state)) c.in-Ask.request c.requires.ready.configured c.requires.ready.service.is.bounds is).0
+
+pub returns-in_default-clause-hands : goal.returns-in_default-clause-hands
+returns-in_default-clause-hands g c = λ p at_p start w order is_in. (
+    let old : Cluster = c.args.self.now in
+    let new : Cluster = record {
+      registry = c.args.self.now.registry;
+      service = c.args.self.now.service;
+      cells = c.args.self.now.cells;
+      post = c.args.self.now.post;
+      trace = c.reserve.new.self;
+      notes = c.reserve-2.new.self;
+      takes = c.args.self.now.takes;
+      waited = c.args.self.now.waited;
+      course = c.args.self.now.course;
+    } in
+    let message_is : p.message ≡ answer c.in-Answer.reply = carries old.post c.args.at c.index-sent-at.result c.requires.place (c.index-sent-at.is ∙ ap (λ xs. get_or xs c.args.at c.index-sent-at.result) c.sent.ensures) p at_p (AsAnswer c.in-Answer.reply) (sym c.message.ensures ∙ c.in-Answer.is) in
+    subst (λ m. Leads g.D.Disk w (after_message old.registry (c.args.at + 1) m w) (moment old c.args.disk.now c.args.wire.now) (moment new c.args.disk.now c.args.wire.now)) (sym message_is)
+    (nobody_leads g.D.Disk old new c.args.disk.now c.args.wire.now c.in-Answer.reply g.met.D.Disk.only_now c.requires.ready
+      (λ a there same. c.in_default.ensures.missing a (subst (λ xs. Contains xs a) (sym c.as_slice.ensures.value) there) (same ∙ sym c.receiver_of.ensures))
+      refl refl refl c.reserve.ensures.items c.reserve-2.ensures.items refl w is_in))
+
+pub index_mut-requires : goal.index_mut-requires
+index_mut-requires g c =
+    let found = c.in-Some.ensures.found in
+    let here : slice_get c.args.self.now.cells.items c.in-Some.place ≡ Some found.0 = ap (λ xs. slice_get xs c.in-Some.place) (sym c.as_slice.ensures.value) ∙ found.1 in
+    let within = slice_get_within c.args.self.now.cells.items c.in-Some.place found.0 here in
+    let same = c.args.self.now.cells.ok.0 in
+    omega (arith, within, same)
+
+pub hear-requires-clause-ready : goal.hear-requires-clause-ready
+hear-requires-clause-ready g c =
+    let k : CellAgent = c.index_mut.result.now in
+    let found = c.in-Some.ensures.found in
+    let here : slice_get c.args.self.now.cells.items c.in-Some.place ≡ Some found.0 = ap (λ xs. slice_get xs c.in-Some.place) (sym c.as_slice.ensures.value) ∙ found.1 in
+    let there = agent_here c.args.self.now.cells.items c.in-Some.place k found.0 here c.index_mut.ensures.value in
+    c.requires.ready.cells k (at_place c.args.self.now.cells.items c.in-Some.place k there)
+
+pub hear-requires-clause-bounds : goal.hear-requires-clause-bounds
+hear-requires-clause-bounds g c =
+    bounds_at c.args.self.now.post c.args.at c.index-sent-at.result c.requires.place (c.index-sent-at.is ∙ ap (λ xs. get_or xs c.args.at c.index-sent-at.result) c.sent.ensures) c.requires.ready.packets (AsAnswer c.in-Answer.reply) (sym c.message.ensures ∙ c.in-Answer.is)
+
+pub send_requests-requires-clause-bounds : goal.send_requests-requires-clause-bounds
+send_requests-requires-clause-bounds g c =
+    let k : CellAgent = c.index_mut.result.now in
+    let found = c.in-Some.ensures.found in
+    let here : slice_get c.args.self.now.cells.items c.in-Some.place ≡ Some found.0 = ap (λ xs. slice_get xs c.in-Some.place) (sym c.as_slice.ensures.value) ∙ found.1 in
+    let there = agent_here c.args.self.now.cells.items c.in-Some.place k found.0 here c.index_mut.ensures.value in
+    let ready = c.requires.ready.cells k (at_place c.args.self.now.cells.items c.in-Some.place k there) in
+    let is_reply = bounds_at c.args.self.now.post c.args.at c.index-sent-at.result c.requires.place (c.index-sent-at.is ∙ ap (λ xs. get_or xs c.args.at c.index-sent-at.result) c.sent.ensures) c.requires.ready.packets (AsAnswer c.in-Answer.reply) (sym c.message.ensures ∙ c.in-Answer.is) in
+    subst AreRequests (sym (c.into_vec.ensures ∙ c.in_ok-told-in-Answer.ensures.sends)) (sends_bounds k.store.cell (stored k.store).tree (kept_by k) ready.agent.store.cell c.in-Answer.reply is_reply)
+
+pub returns-in_ok-send-in-Ask-clause-hands : goal.returns-in_ok-send-in-Ask-clause-hands
+returns-in_ok-send-in-Ask-clause-hands g c = λ p at_p start w order is_in. (
+    let old : Cluster = c.args.self.now in
+    let new : Cluster = record {
+      registry = c.args.self.now.registry;
+      service = c.serve.new.service;
+      cells = c.args.self.now.cells;
+      post = c.send.new.self;
+      trace = c.trace.new.trace;
+      notes = c.reserve-2.new.self;
+      takes = c.args.self.now.takes;
+      waited = c.args.self.now.waited;
+      course = c.args.self.now.course;
+    } in
+    let request = c.in-Ask.request in
+    let due = owed old.registry (kept old.service.state) request in
+    let message_is : p.message ≡ ask request = carries old.post c.args.at c.index-sent-at.result c.requires.place (c.index-sent-at.is ∙ ap (λ xs. get_or xs c.args.at c.index-sent-at.result) c.sent.ensures) p at_p (AsAsk request) (sym c.message.ensures ∙ c.in-Ask.is) in
+    subst (λ m. Leads g.D.Disk w (after_message old.registry (c.args.at + 1) m w) (moment old c.args.disk.now c.args.wire.now) (moment new c.serve.new.disk c.send.new.wire)) (sym message_is)
+    (served_leads g.D.Disk old new c.args.disk.now c.serve.new.disk c.args.wire.now c.send.new.wire c.args.at request due c.requires.ready refl
+      c.in_ok-served-in-Ask.ensures.keeps c.serve.ensures.any_moment refl
+      (c.in_ok-send-in-Ask.ensures.sends.sent ∙ ap (λ r. packets_of old.post ++ record { message = answer r; answers = c.args.at + 1 } ∷ []) c.in_ok-served-in-Ask.ensures.reply)
+      (c.trace.ensures ∙ ap (λ t. traced_by c.in_ok-served-in-Ask.served.step old.takes t) c.reserve.ensures.items ∙ ap (λ st. traced_by st old.takes old.trace.items) c.in_ok-served-in-Ask.ensures.step)
+      c.reserve-2.ensures.items refl start w order is_in))
+
+pub returns-in_ok-send-in-Ask-clause-ready : goal.returns-in_ok-send-in-Ask-clause-ready
+returns-in_ok-send-in-Ask-clause-ready g c =
+    let new : Cluster = record {
+      registry = c.args.self.now.registry;
+      service = c.serve.new.service;
+      cells = c.args.self.now.cells;
+      post = c.send.new.self;
+      trace = c.trace.new.trace;
+      notes = c.reserve-2.new.self;
+      takes = c.args.self.now.takes;
+      waited = c.args.self.now.waited;
+      course = c.args.self.now.course;
+    } in
+    ready_served g.D.Disk c.args.disk.now c.serve.new.disk c.args.self.now new c.requires.ready refl c.in_ok-send-in-Ask.ensures.packets refl c.in_ok-served-in-Ask.ensures.serving c.serve.ensures.others
+
+pub returns-in_ok-send_requests-in-Answer-clause-hands : goal.returns-in_ok-send_requests-in-Answer-clause-hands
+returns-in_ok-send_requests-in-Answer-clause-hands g c = λ p at_p start w order is_in. (
+    let old : Cluster = c.args.self.now in
+    let new : Cluster = record {
+      registry = c.args.self.now.registry;
+      service = c.args.self.now.service;
+      cells = with_item c.args.self.now.cells c.in-Some.place c.hear.new.agent;
+      post = c.send_requests.new.self;
+      trace = c.trace-in-Answer.new.trace;
+      notes = c.note.new.notes;
+      takes = c.args.self.now.takes;
+      waited = c.args.self.now.waited;
+      course = c.args.self.now.course;
+    } in
+    let reply = c.in-Answer.reply in
+    let k : CellAgent = c.index_mut.result.now in
+    let found = c.in-Some.ensures.found in
+    let here : slice_get old.cells.items c.in-Some.place ≡ Some found.0 = ap (λ xs. slice_get xs c.in-Some.place) (sym c.as_slice.ensures.value) ∙ found.1 in
+    let there = agent_here old.cells.items c.in-Some.place k found.0 here c.index_mut.ensures.value in
+    let inside = at_place old.cells.items c.in-Some.place k there in
+    let in_bounds = (c.requires.ready.cells k inside).agent.store.cell in
+    let told = c.in_ok-told-in-Answer.ensures in
+    let of_cell = receiver_is reply k.store.cell in_bounds.0 in_bounds.1 (same_cell old.cells.items c.in-Some.place k found.0 here c.index_mut.ensures.value ∙ found.2 ∙ c.receiver_of.ensures) in
+    let message_is : p.message ≡ answer reply = carries old.post c.args.at c.index-sent-at.result c.requires.place (c.index-sent-at.is ∙ ap (λ xs. get_or xs c.args.at c.index-sent-at.result) c.sent.ensures) p at_p (AsAnswer reply) (sym c.message.ensures ∙ c.in-Answer.is) in
+    let comes = ap (λ m. after_message old.registry (c.args.at + 1) m w) message_is ∙ reply_comes old w k reply (is_in.cells k inside) of_cell in
+    subst (λ v. Leads g.D.Disk w v (moment old c.args.disk.now c.args.wire.now) (moment new c.hear.new.disk c.send_requests.new.wire)) (sym comes)
+    (heard_leads g.D.Disk old new c.args.disk.now c.hear.new.disk c.args.wire.now c.send_requests.new.wire c.args.at reply k c.hear.new.agent
+      c.requires.ready inside of_cell told.tree told.agent c.hear.ensures.same.store.cell c.hear.ensures.any_moment refl
+      (puts_set old.registry old.cells.items c.in-Some.place k c.hear.new.agent c.requires.ready.agents there c.hear.ensures.same.store.cell)
+      (c.in_ok-send_requests-in-Answer.ensures.sends.sent ∙ ap (λ rs. packets_of old.post ++ list_map packet_of rs) (c.into_vec.ensures ∙ told.sends))
+      (c.trace-in-Answer.ensures ∙ ap (λ t. traced_by c.in_ok-told-in-Answer.told.step old.takes t) c.reserve.ensures.items ∙ ap (λ st. traced_by st old.takes old.trace.items) told.step)
+      (c.note.ensures ∙ ap (λ t. noted_by c.in_ok-told-in-Answer.told.ended t) c.reserve-2.ensures.items ∙ ap (λ en. noted_by en old.notes.items) told.ended)
+      refl start w order is_in))
+
+pub returns-in_ok-send_requests-in-Answer-clause-ready : goal.returns-in_ok-send_requests-in-Answer-clause-ready
+returns-in_ok-send_requests-in-Answer-clause-ready g c =
+    let old : Cluster = c.args.self.now in
+    let new : Cluster = record {
+      registry = c.args.self.now.registry;
+      service = c.args.self.now.service;
+      cells = with_item c.args.self.now.cells c.in-Some.place c.hear.new.agent;
+      post = c.send_requests.new.self;
+      trace = c.trace-in-Answer.new.trace;
+      notes = c.note.new.notes;
+      takes = c.args.self.now.takes;
+      waited = c.args.self.now.waited;
+      course = c.args.self.now.course;
+    } in
+    let k : CellAgent = c.index_mut.result.now in
+    let found = c.in-Some.ensures.found in
+    let here : slice_get old.cells.items c.in-Some.place ≡ Some found.0 = ap (λ xs. slice_get xs c.in-Some.place) (sym c.as_slice.ensures.value) ∙ found.1 in
+    let there = agent_here old.cells.items c.in-Some.place k found.0 here c.index_mut.ensures.value in
+    let same = c.hear.ensures.same.store.cell in
+    ready_heard g.D.Disk c.args.disk.now c.hear.new.disk old new c.requires.ready refl c.in_ok-send_requests-in-Answer.ensures.packets
+      k c.hear.new.agent (at_place old.cells.items c.in-Some.place k there) same c.hear.ensures.same.threshold refl
+      (puts_set old.registry old.cells.items c.in-Some.place k c.hear.new.agent c.requires.ready.agents there same)
+      (agents_set old.registry old.cells.items c.in-Some.place k c.hear.new.agent c.requires.ready.agents there same)
+      c.in_ok-told-in-Answer.ensures.ready c.hear.ensures.others

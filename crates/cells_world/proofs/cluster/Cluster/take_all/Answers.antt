@@ -1,0 +1,46 @@
+use Rattle.std.proofs.Common.{◌≡◌, ◌≤◌, ◌++◌, [], refl, sym, ◌∙◌, ap, subst, arith}
+use Rattle.cells_world.specs.World.{at as moment}
+use Rattle.cells_world.proofs.Going.{hands_nothing, hands_on}
+use Rattle.cells_world.proofs.Sending.{sends_nothing, sends_on}
+use Rattle.cells_world.proofs.cluster.Cluster.take_all.Goals as goal
+
+-- before the first packet nothing happened
+pub loop-init : goal.loop-init
+loop-init g c = record {
+  ready = c.requires.ready;
+  hands = hands_nothing g.D.Disk g.N.Wire (moment c.args.self.now c.args.disk.now c.args.wire.now) g.met.D.Disk.only_now c.requires.ready;
+  sends = ([], sends_nothing g.N.Wire c.args.wire.now c.args.wire.now c.args.self.now.post c.args.self.now.post refl refl (λ tells. refl));
+  takes = omega arith;
+  registry = refl;
+  waited = refl;
+  disk_later = omega arith;
+  wire_later = omega arith;
+}
+
+pub returns-then-not-branch-clause-hands : goal.returns-then-not-branch-clause-hands
+returns-then-not-branch-clause-hands g c =
+    hands_on g.D.Disk g.N.Wire (moment c.args.self.now c.args.disk.now c.args.wire.now) (moment c.loop.self c.loop.disk c.loop.wire) (moment c.take_one.new.self c.take_one.new.disk c.take_one.new.wire)
+      c.loop.invariant.registry c.requires.ready.configured c.loop.invariant.hands c.in_ok-take_one.ensures.hands
+
+pub returns-then-not-branch-clause-sends : goal.returns-then-not-branch-clause-sends
+returns-then-not-branch-clause-sends g c =
+    let before = c.loop.invariant.sends in
+    let now = c.in_ok-take_one.ensures.sends in
+    (before.0 ++ now.0, sends_on g.N.Wire c.args.wire.now c.loop.wire c.take_one.new.wire c.args.self.now.post c.loop.self.post c.take_one.new.self.post before.0 now.0 before.1 now.1)
+
+-- one packet more
+pub loop-preserved : goal.loop-preserved
+loop-preserved g c =
+    let before = c.loop.invariant.sends in
+    let now = c.in_ok-take_one.ensures.sends in
+    record {
+      ready = c.in_ok-take_one.ensures.ready;
+      hands = hands_on g.D.Disk g.N.Wire (moment c.args.self.now c.args.disk.now c.args.wire.now) (moment c.loop.self c.loop.disk c.loop.wire) (moment c.take_one.new.self c.take_one.new.disk c.take_one.new.wire)
+          c.loop.invariant.registry c.requires.ready.configured c.loop.invariant.hands c.in_ok-take_one.ensures.hands;
+      sends = (before.0 ++ now.0, sends_on g.N.Wire c.args.wire.now c.loop.wire c.take_one.new.wire c.args.self.now.post c.loop.self.post c.take_one.new.self.post before.0 now.0 before.1 now.1);
+      takes = let a = c.loop.invariant.takes in let b = c.take_one.ensures.takes in omega (arith, a, b);
+      registry = c.take_one.ensures.registry ∙ c.loop.invariant.registry;
+      waited = c.take_one.ensures.waited ∙ c.loop.invariant.waited;
+      disk_later = let a = c.loop.invariant.disk_later in let b = c.take_one.ensures.later.0 in omega (arith, a, b);
+      wire_later = let a = c.loop.invariant.wire_later in let b = c.take_one.ensures.later.1 in omega (arith, a, b);
+    }

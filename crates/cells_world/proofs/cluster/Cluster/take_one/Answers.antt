@@ -1,0 +1,56 @@
+use Rattle.std.proofs.Common.{◌≡◌, ◌+◌, refl, sym, ◌∙◌, ap, subst}
+use Rattle.std.specs.Prelude.{Ok}
+use Rattle.cells_edge.specs.Wire.{IsTaken}
+use Rattle.cells_world.specs.World.{at as moment}
+use Rattle.cells_world.specs.declared.cluster.Cluster.{Cluster}
+use Rattle.cells_world.proofs.Going.{hands_none, hands_sent, hands_stray}
+use Rattle.cells_world.proofs.Posted.{sent_within}
+use Rattle.cells_world.proofs.cluster.Cluster.take_one.Goals as goal
+
+pub returns-in-Ok-None-clause-hands : goal.returns-in-Ok-None-clause-hands
+returns-in-Ok-None-clause-hands g c =
+    hands_none g.D.Disk g.N.Wire (moment c.args.self.now c.args.disk.now c.args.wire.now) c.take.new.self g.met.D.Disk.only_now c.requires.ready (λ tells. subst (λ o. IsTaken (Ok o) (g.N.Wire.handed c.args.wire.now) (g.N.Wire.handed c.take.new.self)) c.in-Ok-None.field-0-is (c.in-Ok-None.ensures.handed tells))
+
+pub returns-in-Err-Failed-clause-hands : goal.returns-in-Err-Failed-clause-hands
+returns-in-Err-Failed-clause-hands g c =
+    hands_none g.D.Disk g.N.Wire (moment c.args.self.now c.args.disk.now c.args.wire.now) c.take.new.self g.met.D.Disk.only_now c.requires.ready (λ tells. c.in-Err-Failed.ensures.handed tells)
+
+pub hand-requires-clause-place : goal.hand-requires-clause-place
+hand-requires-clause-place g c = sent_within c.args.self.now.post c.in-Some.at c.in-Ok-Some.packet c.in-Some.ensures.found
+
+pub returns-in-Some-clause-hands : goal.returns-in-Some-clause-hands
+returns-in-Some-clause-hands g c =
+    let counted : Cluster = record {
+      registry = c.args.self.now.registry;
+      service = c.args.self.now.service;
+      cells = c.args.self.now.cells;
+      post = c.args.self.now.post;
+      trace = c.args.self.now.trace;
+      notes = c.args.self.now.notes;
+      takes = c.args.self.now.takes + 1;
+      waited = c.args.self.now.waited;
+      course = c.after-self.result;
+    } in
+    hands_sent g.D.Disk g.N.Wire (moment c.args.self.now c.args.disk.now c.args.wire.now) counted c.in-Ok-Some.packet
+      (record { registry = refl; service = refl; cells = refl; sent = refl; trace = refl; notes = refl; takes = refl })
+      c.in-Some.at (moment c.hand.new.self c.hand.new.disk c.hand.new.wire) c.take.new.self
+      c.in-Some.ensures.found c.in_ok-hand-in-Some.ensures.hands
+      (λ tells. c.hand.ensures.handed tells ∙ subst (λ o. IsTaken (Ok o) (g.N.Wire.handed c.args.wire.now) (g.N.Wire.handed c.take.new.self)) c.in-Ok-Some.field-0-is (c.in-Ok-Some.ensures.handed tells))
+
+-- one that nobody here sent
+pub returns-clause-hands : goal.returns-clause-hands
+returns-clause-hands g c =
+    let counted : Cluster = record {
+      registry = c.args.self.now.registry;
+      service = c.args.self.now.service;
+      cells = c.args.self.now.cells;
+      post = c.args.self.now.post;
+      trace = c.args.self.now.trace;
+      notes = c.args.self.now.notes;
+      takes = c.args.self.now.takes + 1;
+      waited = c.args.self.now.waited;
+      course = c.args.self.now.course;
+    } in
+    hands_stray g.D.Disk g.N.Wire (moment c.args.self.now c.args.disk.now c.args.wire.now) counted c.in-Ok-Some.packet
+      (record { registry = refl; service = refl; cells = refl; sent = refl; trace = refl; notes = refl; takes = refl })
+      c.take.new.self g.met.D.Disk.only_now c.requires.ready c.in-None.ensures.missing (λ tells. subst (λ o. IsTaken (Ok o) (g.N.Wire.handed c.args.wire.now) (g.N.Wire.handed c.take.new.self)) c.in-Ok-Some.field-0-is (c.in-Ok-Some.ensures.handed tells))

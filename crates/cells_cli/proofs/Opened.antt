@@ -26,7 +26,7 @@ use Rattle.cells_world.specs.declared.cluster.Cluster.{Cluster}
 use Rattle.cells_world.specs.declared.fault.ClusterError.{ClusterError}
 use Rattle.cells_world.specs.declared.fault.ClusterError.TheVariants.{DiskFailed, Memory as NoRoom, Damaged}
 use Rattle.cells_world.specs.declared.fault.Damage.TheVariants.{NotAJournal as NoJournal, BadEntry as RefusedEntry, ConfigLacks as LacksCell, EpochsSpent as SpentEpochs}
-use Rattle.cells_world.proofs.Going.{ready_is_of}
+use Rattle.cells_world.proofs.Served.{ready_is_of}
 use Rattle.cells_cli.specs.Doing.{Does, DoesScript, EndsSo, HasItsCause, ended, status_of_cluster}
 use Rattle.cells_cli.specs.ScriptLines.{script_lines_of}
 use Rattle.cells_cli.specs.Script.{line_refused, lines_done}

@@ -22,7 +22,8 @@ use Rattle.cells_world.specs.Cluster.{IsReady}
 use Rattle.cells_world.specs.Ending.{GoesOn}
 use Rattle.cells_world.specs.Lines.{AreOf, Follows, moment_of}
 use Rattle.cells_world.specs.World.{At, AreGiven, Goes, IsIn, IsOf, IsReached}
-use Rattle.cells_world.proofs.Going.{run_append, ready_is_of}
+use Rattle.cells_world.proofs.Going.{run_append}
+use Rattle.cells_world.proofs.Served.{ready_is_of}
 use Rattle.cells_cli.specs.Told.{Item, lines_told, notes_told, steps_told}
 use Rattle.cells_cli.specs.Went.{AreOfLines, Brings, Went}
 use Rattle.cells_cli.proofs.Telling.{steps_append, notes_append, lines_append}

@@ -16,7 +16,7 @@ use Rattle.cells_cli.specs.Told.{Item, lines_told, notes_told, steps_told}
 abbrev pub AreOfLines : Registry → World → List Line → List Event → Type 0
 AreOfLines registry w [] es = es ≡ []
 AreOfLines registry w (line ∷ lines) es =
-    (now : ℕ) × (own : List Event) × (rest : List Event) × (es ≡ own ++ rest) × AreOf registry w now line own × AreOfLines registry (run registry own w) lines rest
+    (now : ℕ) × (own : List Event) × (rest : List Event) × (es ≡ own ++ rest) × AreOf w now line own × AreOfLines registry (run registry own w) lines rest
 
 -- what lines bring about from a world
 pub record Brings {D N : Type 0} (g : Ghosts D) (n : WireGhosts N) (registry : Registry) (w : World) (lines : List Line) (old new : At D N) : Type 0 where

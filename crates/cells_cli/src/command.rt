@@ -1,4 +1,5 @@
 ghost use Rattle.std.specs.Prelude.{◌≡◌, ◌≢◌, ◌≤◌, ◌⊎◌, List, ℕ, IsTrue, IfOk, string_bytes};
+ghost use Rattle.cell_registry.specs.Bounds.{is_registry};
 ghost use Rattle.cells_edge.specs.Streams.{WritesAll, WritesFront, SinkFails, SourceFails};
 ghost use Rattle.cells_cli.specs.Config.{command_of, command_of_one, command_of_two, cell_named as named_by, is_digit as is_digit_byte, is_first_digit as is_first_digit_byte, ReadsConfig, Replays};
 ghost use Rattle.cells_cli.specs.Files.{AreDistinct};
@@ -265,6 +266,7 @@ fn operate<B: Source, W: Sink, D: Disk, N: Wire, C: Clock>(
     wire: &mut N,
     clock: &mut C,
 ) -> Status
+    requires { IsTrue (is_registry registry) }
     ensures runs { RunsUp B.Source W.Sink D.Disk N.Wire registry script.old script.new out.old out.new
         disk.old disk.new wire.old wire.new result }
     ensures read { result ≡ Status.ReadFault → SourceFails B.Source script.old script.new }
@@ -312,8 +314,8 @@ pub fn run<A: Source, B: Source, W: Sink, D: Disk, N: Wire, C: Clock>(
     ensures made { Installs A.Source W.Sink D.Disk words.now config.old out.old out.new disk.old disk.new result }
 
     // what was done, traced and left
-    ensures up { RunsUpBy A.Source B.Source W.Sink D.Disk N.Wire words.now config.old script.old script.new out.old out.new
-        disk.old disk.new wire.old wire.new result }
+    ensures up { RunsUpBy A.Source B.Source W.Sink D.Disk N.Wire words.now config.old script.old script.new
+        out.old out.new disk.old disk.new wire.old wire.new result }
 
     // when each status comes; want of memory is free
     ensures start { StartsBy A.Source words.now config.old result }

@@ -1,5 +1,6 @@
 //! The command `up`: a script over the service and its cells.
 ghost use Rattle.std.specs.Prelude.{◌≡◌, ◌≤◌, ◌<◌, ℕ, IsTrue, [], OnOk};
+ghost use Rattle.cell_registry.specs.Bounds.{is_registry};
 ghost use Rattle.claim_types.specs.declared.limits.TheConstants.{GREATEST_ATTEMPT};
 ghost use Rattle.cells_script.specs.declared.limits.TheConstants.{LINE_BYTES};
 ghost use Rattle.cells_world.specs.Cluster.{IsReady};
@@ -166,7 +167,8 @@ fn do_lines<S: Source, W: Sink, D: Disk, N: Wire, C: Clock>(
     ensures does { DoesScript S.Source W.Sink D.Disk N.Wire script.old (moment cluster.old disk.old wire.old)
         (moment cluster.new disk.new wire.new) out.old out.new result }
     ensures end { IsTrue S.tells → ReadsAll S.Source script.new result }
-    ensures cause { HasItsCause S.Source W.Sink (EndsSo D.Disk disk.old disk.new) script.old script.new out.old out.new result }
+    ensures cause { HasItsCause S.Source W.Sink (EndsSo D.Disk disk.old disk.new) script.old script.new
+        out.old out.new result }
     ensures later { (W.faults out.old ≤ W.faults out.new) × (D.faults disk.old ≤ D.faults disk.new) }
 {
     while lines.next_script_line(script)? {
@@ -195,10 +197,12 @@ pub fn up<S: Source, W: Sink, D: Disk, N: Wire, C: Clock>(
     wire: &mut N,
     clock: &mut C,
 ) -> Result<(), UpStop>
+    requires { IsTrue (is_registry registry) }
     ensures ups { Ups S.Source W.Sink D.Disk N.Wire registry script.old out.old out.new disk.old disk.new
         wire.old wire.new (ended result) }
     ensures end { IsTrue S.tells → ReadsAll S.Source script.new result }
-    ensures cause { HasItsCause S.Source W.Sink (OpensSo D.Disk registry disk.old disk.new) script.old script.new out.old out.new result }
+    ensures cause { HasItsCause S.Source W.Sink (OpensSo D.Disk registry disk.old disk.new) script.old script.new
+        out.old out.new result }
     ensures later { W.faults out.old ≤ W.faults out.new }
 {
     let mut lines = LineReader::new(alloc, LINE_BYTES as usize)?;

@@ -78,6 +78,9 @@ same_registry a b job h k = cc
 not_both : (a : Registry) (files : List ℕ) (job : Result Job Status) → job ≡ Ok (does_lines a) → job ≡ Ok (makes_files files) → ⊥
 not_both a files job h k = cc
 
+pub operate-requires : goal.operate-requires
+operate-requires g c = subst (λ (work : Work). IsSound work) c.in-Ok-Run.field-0-is c.in-Ok-Run.ensures.sound
+
 pub returns-in-Ok-Run-clause-report : goal.returns-in-Ok-Run-clause-report
 returns-in-Ok-Run-clause-report g c a b w =
     let is = sym c.in-Some.is ∙ c.command_of.ensures in

@@ -124,4 +124,4 @@ pub record RunsUp {S W D N : Type 0} (s : SourceGhosts S) (w : SinkGhosts W) (d 
 
 -- how an opening comes to an end
 abbrev pub OpensSo : {D : Type 0} → DiskGhosts D → Registry → D → D → ClusterError → Type 0
-OpensSo d registry disk disk_now error = IsOpenEnd d registry disk disk_now (Err error)
+OpensSo d registry disk disk_now error = IsOpenEnd {T = Unit {0}} d registry disk disk_now (Err error)

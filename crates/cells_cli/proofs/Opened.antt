@@ -70,7 +70,6 @@ module _ {S W D N : Type 0} (s : SourceGhosts S) (w : SinkGhosts W) (d : DiskGho
       (opens : IsTrue d.tells → StandsStill d disk opened → Opens registry (d.seen disk) cluster)
       (later : d.faults opened ≤ d.faults new.disk)
       (does : Does w d n s.tells (lines_done 0 (script_lines_of (s.left script))) (line_refused 0 (script_lines_of (s.left script))) (moment cluster opened wire) new out out_now status) where
-
     traces_of : IsTrue d.tells → StandsStill d disk new.disk → (start : ClaimMap) (world : World) → IsInOrder registry start world → AreConfigured registry world → IsOf registry (d.seen disk) world → Traces d n registry world does.told.items new.disk wire new.wire status
     traces_of tells still start world order configured is_of =
         let legal_cells = subst AreCells same cells in

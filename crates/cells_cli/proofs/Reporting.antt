@@ -107,10 +107,11 @@ module _ {S W D N : Type 0} (s : SourceGhosts S) (w : SinkGhosts W) (d : DiskGho
       told = ups.told;
       lines = λ t. to_first wanted refused ups.told own (ups.lines t);
       report = λ t. (
-          let p = part t in
-          (telling_text ups.told ++ p.0,
-           (p.1.0, last_apart p.1.0 p.1.1, (λ t. last_told p.1.0 p.1.1 t), (p.1.2.0, ap (λ (x : List ℕ). telling_text ups.told ++ x) p.1.2.1 ∙ sym (append_assoc (telling_text ups.told) p.0 p.1.2.0))),
-           p.2 ∙ ap (λ (x : List ℕ). x ++ p.0) (before t) ∙ append_assoc (w.written out) (telling_text ups.told) p.0));
+          let p = part t in (
+            telling_text ups.told ++ p.0,
+            (p.1.0, last_apart p.1.0 p.1.1, (λ t. last_told p.1.0 p.1.1 t), (p.1.2.0, ap (λ (x : List ℕ). telling_text ups.told ++ x) p.1.2.1 ∙ sym (append_assoc (telling_text ups.told) p.0 p.1.2.0))),
+            p.2 ∙ ap (λ (x : List ℕ). x ++ p.0) (before t) ∙ append_assoc (w.written out) (telling_text ups.told) p.0,
+          ));
       traces = λ tells still start world order configured is_of. either d n registry world ups.told disk_now wire wire_now own _ _ (less_in_writing d n registry world ups.told disk_now wire wire_now own) (ups.traces tells still start world order configured is_of);
       read = λ t. tt;
       damage = tt;

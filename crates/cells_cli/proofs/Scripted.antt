@@ -160,8 +160,11 @@ module _ {W D N : Type 0} (w : SinkGhosts W) (d : DiskGhosts D) (n : WireGhosts 
           ready = does.ready;
           went = went_there does.told.items does.here does.went;
           ends = does.ends;
-          lines = λ t. (lines.0, subst (λ (l : List Numbered). AreFirst l wanted) (sym (numbered_append so.items does.told.items))
-              (first_more (numbered so.items) (numbered does.told.items) (done_with (given + 1) r []) behind.0 (done_with (given + 1) r (lines_done (given + 1) rest)) wanted lines.1 behind.1 (lines_at t)));
+          lines = λ t. (
+            lines.0,
+            subst (λ (l : List Numbered). AreFirst l wanted) (sym (numbered_append so.items does.told.items))
+                (first_more (numbered so.items) (numbered does.told.items) (done_with (given + 1) r []) behind.0 (done_with (given + 1) r (lines_done (given + 1) rest)) wanted lines.1 behind.1 (lines_at t)),
+          );
           written = written_all does.told does.written;
         }
     ended_here WriteStop does = record {

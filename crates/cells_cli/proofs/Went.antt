@@ -53,9 +53,14 @@ module _ (registry : Registry) where
   of_lines_append : (lines more : List Line) (w : World) (es fs : List Event) → AreOfLines registry w lines es → AreOfLines registry (run registry es w) more fs → AreOfLines registry w (lines ++ more) (es ++ fs)
   of_lines_append [] more w es fs first second =
       subst (λ x. AreOfLines registry w more (x ++ fs)) (sym first) (subst (λ x. AreOfLines registry (run registry x w) more fs) first second)
-  of_lines_append (line ∷ lines) more w es fs first second =
-      (first.0, first.1, first.2 ++ fs, ap (λ x. x ++ fs) first.3 ∙ append_assoc first.1 first.2 fs, first.4,
-       of_lines_append lines more (run registry first.1 w) first.2 fs first.5 (subst (λ v. AreOfLines registry v more fs) (ap (λ x. run registry x w) first.3 ∙ run_append registry first.1 first.2 w) second))
+  of_lines_append (line ∷ lines) more w es fs first second = (
+    first.0,
+    first.1,
+    first.2 ++ fs,
+    ap (λ x. x ++ fs) first.3 ∙ append_assoc first.1 first.2 fs,
+    first.4,
+    of_lines_append lines more (run registry first.1 w) first.2 fs first.5 (subst (λ v. AreOfLines registry v more fs) (ap (λ x. run registry x w) first.3 ∙ run_append registry first.1 first.2 w) second),
+  )
 
 module _ {D N : Type 0} (g : Ghosts D) (n : WireGhosts N) where
   goes_on : (registry : Registry) (w : World) (a b c : At D N) (es fs : List Event) → Goes g n registry w a b es → Goes g n registry (run registry es w) b c fs → Goes g n registry w a c (es ++ fs)

@@ -94,12 +94,7 @@ const SCRIPTS: [(&str, &[u8], &[u8], &[u8]); 15] = [
         b"create 1 organization o\n",
         b"1: refused no-ids\nend\n",
     ),
-    (
-        "an empty script",
-        CELLS,
-        b"",
-        b"end\n",
-    ),
+    ("an empty script", CELLS, b"", b"end\n"),
     (
         "lines that are skipped keep their numbers",
         CELLS,
@@ -172,11 +167,7 @@ const REFUSED: [(&[u8], Status, &[u8]); 3] = [
         Status::Script { line: 2 },
         b"1: waited\nscript 2\n",
     ),
-    (
-        b"wait 1\r",
-        Status::Script { line: 1 },
-        b"script 1\n",
-    ),
+    (b"wait 1\r", Status::Script { line: 1 }, b"script 1\n"),
 ];
 
 #[test]

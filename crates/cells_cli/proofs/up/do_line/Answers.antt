@@ -22,7 +22,7 @@ returns-in-Ok-clause-does g c =
     let notes : c.behind.result.now ≡ grows.notes = c.behind.ensures ∙ new_ones c.args.cluster.now.notes.items grows.notes c.line.new.self.notes.items c.notes-notes.result.now c.notes.result.now c.notes-notes.ensures c.notes.ensures grows.noted in
     let steps : c.behind-in-Ok.result.now ≡ grows.steps = c.behind-in-Ok.ensures ∙ new_ones c.args.cluster.now.trace.items grows.steps c.line.new.self.trace.items c.trace-steps.result.now c.trace.result.now c.trace-steps.ensures c.trace.ensures grows.trace in
     let told = subst (λ (ss : List Transition). Tells g.W.Sink (answered_text c.args.number grows.notes ss c.in-Ok.answer) c.args.out.now c.tell_line.new.out c.tell_line.result) steps
-        (subst (λ (ns : List Note). Tells g.W.Sink (answered_text c.args.number ns c.behind-in-Ok.result.now c.in-Ok.answer) c.args.out.now c.tell_line.new.out c.tell_line.result) notes c.tell_line.ensures.told) in
+    (subst (λ (ns : List Note). Tells g.W.Sink (answered_text c.args.number ns c.behind-in-Ok.result.now c.in-Ok.answer) c.args.out.now c.tell_line.new.out c.tell_line.result) notes c.tell_line.ensures.told) in
     answered g.W.Sink g.D.Disk g.N.Wire before after c.args.out.now c.tell_line.new.out g.met.D.Disk.only_now c.requires.ready
     (record { number = c.args.number; line = c.args.line.now; notes = grows.notes; steps = grows.steps; answer = c.in-Ok.answer }) went c.in-Ok.ensures.ready c.tell_line.result told
 
@@ -34,7 +34,7 @@ returns-in-Err-clause-does g c =
     let notes : c.behind-in-Err.result.now ≡ grows.notes = c.behind-in-Err.ensures ∙ new_ones c.args.cluster.now.notes.items grows.notes c.line.new.self.notes.items c.notes-notes.result.now c.notes-in-Err.result.now c.notes-notes.ensures c.notes-in-Err.ensures grows.noted in
     let steps : c.behind-in-Err-2.result.now ≡ grows.steps = c.behind-in-Err-2.ensures ∙ new_ones c.args.cluster.now.trace.items grows.steps c.line.new.self.trace.items c.trace-steps.result.now c.trace-in-Err.result.now c.trace-steps.ensures c.trace-in-Err.ensures grows.trace in
     let told = subst (λ (ss : List Transition). Tells g.W.Sink (broken_off_text grows.notes ss) c.args.out.now c.tell_end-told.new.out c.tell_end-told.result) steps
-        (subst (λ (ns : List Note). Tells g.W.Sink (broken_off_text ns c.behind-in-Err-2.result.now) c.args.out.now c.tell_end-told.new.out c.tell_end-told.result) notes c.tell_end-told.ensures.told) in
+    (subst (λ (ns : List Note). Tells g.W.Sink (broken_off_text ns c.behind-in-Err-2.result.now) c.args.out.now c.tell_end-told.new.out c.tell_end-told.result) notes c.tell_end-told.ensures.told) in
     let off = broken_off g.W.Sink g.D.Disk g.N.Wire before after c.args.out.now c.tell_end-told.new.out g.met.D.Disk.only_now c.requires.ready
-        (record { number = c.args.number; line = c.args.line.now; notes = grows.notes; steps = grows.steps }) c.in-Err.error c.tell_end-told.result told in
+    (record { number = c.args.number; line = c.args.line.now; notes = grows.notes; steps = grows.steps }) c.in-Err.error c.tell_end-told.result told in
     subst (λ r. DoesLine g.W.Sink g.D.Disk g.N.Wire c.args.number c.args.line.now before after c.args.out.now c.tell_end-told.new.out r) (sym c.stopped.ensures) off

@@ -51,7 +51,7 @@ loop-cluster-preserved g c =
     let number : c.given.result ≡ n + 1 = c.given.ensures ∙ counted in
     let few : n < LINES = (c.in_ok-next_script_line.ensures.short (search rules)).0 in
     let so = so_far_ahead g.W.Sink g.D.Disk g.N.Wire g.S.Source.tells wanted refused n (script_lines_of (c.loop-cluster.lines.pending ++ g.S.Source.left c.loop-cluster.script)) (text ∷ rest) before mid c.args.out.now c.loop-cluster.out c.loop-cluster.invariant.so_far
-        (λ s. gives_next c.in_ok-next_script_line.field-0 _ _ _ c.if-branch.true (c.in_ok-next_script_line.ensures.next s) ∙ ap (λ (l : List ℕ). l ∷ rest) (sym c.line.ensures)) in
+    (λ s. gives_next c.in_ok-next_script_line.field-0 _ _ _ c.if-branch.true (c.in_ok-next_script_line.ensures.next s) ∙ ap (λ (l : List ℕ). l ∷ rest) (sym c.line.ensures)) in
     let does = subst (λ k. DoesText g.W.Sink g.D.Disk g.N.Wire k text mid after c.loop-cluster.out c.take_line.new.out (Ok tt)) number c.in_ok-take_line.ensures.does in
     let so_now = so_far_more g.W.Sink g.D.Disk g.N.Wire g.S.Source.tells wanted refused n text rest before mid after c.args.out.now c.loop-cluster.out c.take_line.new.out so few c.requires.ready.configured does in
     let counts = c.in_ok-take_line.ensures.counts in
@@ -78,9 +78,9 @@ returns-in_err-next_script_line-clause-does g c =
     let fault = c.in_err-next_script_line.field-0.0 in
     let ahead = c.loop-cluster.lines.pending ++ g.S.Source.left c.loop-cluster.script in
     let stopped = ended_between g.W.Sink g.D.Disk g.N.Wire g.S.Source.tells wanted refused n (script_lines_of ahead) before mid c.args.out.now c.loop-cluster.out c.loop-cluster.invariant.so_far c.loop-cluster.invariant.ready fault
-        (λ s. refuses_ahead n c.loop-cluster.lines.limit (script_lines_of ahead) fault c.loop-cluster.invariant.limit (c.in_err-next_script_line.ensures.refused s)
-            (λ line is. (c.next_script_line.ensures.long line (c.in_err-next_script_line.was ∙ ap Err is)).0)
-            (λ is. (c.next_script_line.ensures.many (c.in_err-next_script_line.was ∙ ap Err is)).0)) in
+    (λ s. refuses_ahead n c.loop-cluster.lines.limit (script_lines_of ahead) fault c.loop-cluster.invariant.limit (c.in_err-next_script_line.ensures.refused s)
+    (λ line is. (c.next_script_line.ensures.long line (c.in_err-next_script_line.was ∙ ap Err is)).0)
+    (λ is. (c.next_script_line.ensures.many (c.in_err-next_script_line.was ∙ ap Err is)).0)) in
     subst (λ r. Does g.W.Sink g.D.Disk g.N.Wire g.S.Source.tells wanted refused before mid c.args.out.now c.loop-cluster.out (ended r)) (sym (p.1 ∙ ap Err p.2)) stopped
 
 pub returns-in_err-take_line-clause-does : goal.returns-in_err-take_line-clause-does
@@ -99,7 +99,7 @@ returns-in_err-take_line-clause-does g c =
     let number : c.given.result ≡ n + 1 = c.given.ensures ∙ counted in
     let few : n < LINES = (c.in_ok-next_script_line.ensures.short (search rules)).0 in
     let so = so_far_ahead g.W.Sink g.D.Disk g.N.Wire g.S.Source.tells wanted refused n (script_lines_of (c.loop-cluster.lines.pending ++ g.S.Source.left c.loop-cluster.script)) (text ∷ rest) before mid c.args.out.now c.loop-cluster.out c.loop-cluster.invariant.so_far
-        (λ s. gives_next c.in_ok-next_script_line.field-0 _ _ _ c.if-branch.true (c.in_ok-next_script_line.ensures.next s) ∙ ap (λ (l : List ℕ). l ∷ rest) (sym c.line.ensures)) in
+    (λ s. gives_next c.in_ok-next_script_line.field-0 _ _ _ c.if-branch.true (c.in_ok-next_script_line.ensures.next s) ∙ ap (λ (l : List ℕ). l ∷ rest) (sym c.line.ensures)) in
     let stop = c.in_err-take_line.field-0.0 in
     let numbered = subst (λ k. DoesText g.W.Sink g.D.Disk g.N.Wire k text mid after c.loop-cluster.out c.take_line.new.out c.take_line.result) number c.take_line.ensures.does in
     let does = subst (λ r. DoesText g.W.Sink g.D.Disk g.N.Wire (n + 1) text mid after c.loop-cluster.out c.take_line.new.out r) c.in_err-take_line.was numbered in

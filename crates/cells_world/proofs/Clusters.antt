@@ -1,5 +1,5 @@
 -- The service's file is opened, and then those of the cells.
-use Rattle.std.proofs.Common.{◌≡◌, inr, ℕ, ◌≤◌, true, IsTrue, List, sym, subst, arith}
+use Rattle.std.proofs.Common.{◌≡◌, inr, ℕ, ◌≤◌, true, IsTrue, List, sym, subst, arith, ◌∙◌, ap}
 use Rattle.std.specs.Prelude.{Err}
 use Rattle.std.specs.List.{Contains}
 use Rattle.claim_types.specs.declared.cell.Cell.{Cell}
@@ -11,7 +11,7 @@ use Rattle.disk_journal.specs.declared.disk.Disk.{Ghosts}
 use Rattle.disk_journal.specs.Entries.{TouchesOnly}
 use Rattle.reconciler.specs.declared.agent.CellAgent.{CellAgent}
 use Rattle.cells_world.specs.Cluster.{AreAgentsOf, IsReady}
-use Rattle.cells_world.specs.Opening.{AreNew, AreOf, AreOpened, IsOneEnd, IsOpenEnd, ShowsOfCell, StandsStill, StaysBeside}
+use Rattle.cells_world.specs.Opening.{AreNew, AreOf, AreOpened, AreToEndFrom, IsOneEnd, IsOpenEnd, ShowsOfCell, StandsStill, StaysBeside}
 use Rattle.cells_world.specs.Post.{ArePackets}
 use Rattle.cells_world.specs.Serving.{IsServing}
 use Rattle.cells_world.specs.declared.cluster.Cluster.{Cluster}
@@ -45,10 +45,11 @@ module _ {D : Type 0} (g : Ghosts D) (registry : Registry) (legal : is_registry 
     opened_all opened tells still a there =
         opened_same a.store.cell (g.seen old) (g.seen mid) a.store (unread tells a.store.cell (are_new.ready a there).agent.store.cell.0) (opened tells (still_then still) a there)
 
-    pub ready_all : (c : Cluster) → c.registry ≡ registry → c.cells.items ≡ agents → IsServing g mid c.service → StaysBeside g registry.cells mid new → ArePackets c.post → IsReady g new c
-    ready_all c same_registry same_cells serving others packets = record {
+    pub ready_all : (c : Cluster) → c.registry ≡ registry → c.cells.items ≡ agents → AreToEndFrom registry.threshold agents → IsServing g mid c.service → StaysBeside g registry.cells mid new → ArePackets c.post → IsReady g new c
+    ready_all c same_registry same_cells thresholds serving others packets = record {
       configured = subst Rattle.claim_map.specs.Bounds.AreCells (sym same_registry) (legal_cells registry legal);
       agents = subst (λ r. AreAgentsOf r c.cells.items) (sym same_registry) (subst (AreAgentsOf registry) (sym same_cells) (agents_of registry agents are_of (apart_of registry legal)));
+      thresholds = λ a there. thresholds a (subst (λ l. Contains l a) same_cells there) ∙ ap (λ (r : Registry). r.threshold) (sym same_registry);
       service = serves_there g registry.cells mid new c.service (numbered registry legal) others serving;
       cells = λ a there. are_new.ready a (subst (λ l. Contains l a) same_cells there);
       packets = packets;

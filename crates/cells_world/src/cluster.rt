@@ -640,6 +640,7 @@ impl Cluster {
             notes: Vec::new(alloc),
             takes: 0,
             waited: 0,
+            course: Course::idle(),
         })
     }
 

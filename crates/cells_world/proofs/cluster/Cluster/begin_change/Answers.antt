@@ -23,7 +23,7 @@ use Rattle.cells_world.specs.declared.cluster.Cluster.{Cluster}
 use Rattle.cells_world.proofs.Acting.{unknown}
 use Rattle.cells_world.proofs.Places.{puts_set, agents_set, same_some}
 use Rattle.cells_world.proofs.Reconcile.{ready_acted}
-use Rattle.cells_world.proofs.Wanting.{asked_in, refused_in, asked_ok, asked_err, begun, own_of_change, asks_nobody, change_in, answers_rule}
+use Rattle.cells_world.proofs.Wanting.{asked_in, refused_in, asked_ok, asked_err, begun, own_of_change, asks_nobody, change_in, answers_rule, spent_in}
 use Rattle.cells_world.proofs.cluster.Cluster.begin_change.Goals as goal
 
 -- the agent that is asked is the one that was read, with an attempt left
@@ -47,6 +47,18 @@ pub returns-in_default-clause-acts : goal.returns-in_default-clause-acts
 returns-in_default-clause-acts g c = λ start w order is_in.
     asks_nobody c.args.self.now w c.args.self.now.registry c.args.cell c.args.now c.args.line.now c.requires.cell
       (unknown c.args.self.now w c.args.cell is_in (λ a there. c.in_default.ensures.missing a (subst (λ xs. Contains xs a) (sym c.as_slice-cells.ensures.value) there))) is_in
+
+-- the last attempt of the epoch was drawn
+pub returns-then-drawn-ge-GREATEST_ATTEMPT-clause-acts : goal.returns-then-drawn-ge-GREATEST_ATTEMPT-clause-acts
+returns-then-drawn-ge-GREATEST_ATTEMPT-clause-acts g c = λ start w order is_in. (
+    let i : CellAgent = c.index-cells-place.result in
+    let found = c.in-Some.ensures.found in
+    let read = slice_get_read c.as_slice-cells.result.now (length c.as_slice-cells.result.now) c.in-Some.place i refl c.in-Some.ensures.within c.index-cells-place.is in
+    let there : slice_get c.args.self.now.cells.items c.in-Some.place ≡ Some i = ap (λ xs. slice_get xs c.in-Some.place) (sym c.as_slice-cells.ensures.value) ∙ read in
+    let of_cell : i.store.cell ≡ c.args.cell = ap (λ (x : CellAgent). x.store.cell) (same_some i found.0 (sym read ∙ found.1)) ∙ found.2 in
+    let spent = c.if-drawn-ge-GREATEST_ATTEMPT.true in
+    let is = c.drawn.ensures in
+    spent_in c.args.self.now w c.args.self.now.registry i c.args.line.now c.args.cell c.args.now c.requires.cell of_cell is_in (at_place c.args.self.now.cells.items c.in-Some.place i there) (omega (arith, spent, is)))
 
 pub ask_change-requires-clause-agent : goal.ask_change-requires-clause-agent
 ask_change-requires-clause-agent g c =

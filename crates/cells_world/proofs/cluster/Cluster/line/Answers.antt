@@ -1,4 +1,4 @@
-use Rattle.std.proofs.Common.{◌≡◌, ◌×◌, List, refl, sym, ◌∙◌, ap, subst}
+use Rattle.std.proofs.Common.{◌≡◌, List, refl, sym, ◌∙◌, ap, subst}
 use Rattle.claim_laws.specs.Events.{Event}
 use Rattle.cells_world.specs.Lines.{AreOf}
 use Rattle.cells_world.specs.World.{Goes, at as moment}

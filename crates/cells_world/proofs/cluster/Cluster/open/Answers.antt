@@ -1,7 +1,7 @@
 use Rattle.std.proofs.Common.{refl, sym, ap, subst}
 use Rattle.std.proofs.lemmas.Result.{err_from_is_err_and}
 use Rattle.claim_laws.specs.Nodes.{Agent}
-use Rattle.cells_world.specs.Opening.{AreApart, AreOf, IsNew, IsOneEnd, StaysBeside}
+use Rattle.cells_world.specs.Opening.{AreApart, AreOf, AreToEndFrom, IsNew, IsOneEnd, StaysBeside}
 use Rattle.cells_world.specs.declared.cluster.Cluster.{Cluster}
 use Rattle.cells_world.proofs.Clusters.{cells_end, opened_all, ready_all, still_first}
 use Rattle.cells_world.proofs.Configured.{agent_known, agents_of, apart_of}
@@ -30,10 +30,11 @@ returns-clause-ready g c =
       notes = c.new-3.result;
       takes = 0;
       waited = 0;
+      course = c.idle.result;
     } in
     ready_all g.D.Disk c.args.registry c.cells.ensures.legal c.args.disk.now c.open_service.new.disk c.open_agents.new.disk c.open_service.ensures.others
     c.in_ok-cells.cells.items (subst (λ l. AreOf l c.in_ok-cells.cells.items) c.cells.ensures.value c.in_ok-cells.ensures.cells) c.in_ok-cells.ensures.new
-    opened refl refl c.in_ok-service.ensures.serving
+    opened refl refl (subst (λ n. AreToEndFrom n c.in_ok-cells.cells.items) c.threshold.ensures c.in_ok-cells.ensures.thresholds) c.in_ok-service.ensures.serving
     (subst (λ l. StaysBeside g.D.Disk l c.open_service.new.disk c.open_agents.new.disk) c.cells.ensures.value c.open_agents.ensures.others)
     c.new.ensures.packets
 
@@ -60,6 +61,7 @@ returns-clause-opens g c = λ tells still start w order configured is_of. (
       notes = c.new-3.result;
       takes = 0;
       waited = 0;
+      course = c.idle.result;
     } in
     let is_new : IsNew opened = record {
       sent = c.new.ensures.sent;

@@ -7,13 +7,10 @@ use Rattle.cells_edge.specs.declared.wire.Wire.{Ghosts as WireGhosts}
 use Rattle.disk_journal.specs.declared.disk.Disk.{Ghosts as DiskGhosts}
 use Rattle.cells_script.specs.declared.line.Line.{Line}
 use Rattle.cells_world.specs.Cluster.{IsReady, IsEndOf}
-use Rattle.cells_world.specs.Lines.{DrewFewer}
 use Rattle.cells_world.specs.World.{At}
-use Rattle.cells_world.specs.declared.cluster.Cluster.{Cluster}
 use Rattle.cells_world.specs.declared.fault.ClusterError.{ClusterError}
 use Rattle.cells_world.specs.declared.fault.ClusterError.TheVariants.{DiskFailed, Memory as NoRoom, Damaged}
 use Rattle.cells_world.specs.declared.fault.Damage.TheVariants.{NotAJournal as NoJournal, BadEntry as RefusedEntry, ConfigLacks as LacksCell, EpochsSpent as SpentEpochs}
-use Rattle.cells_world.specs.declared.limits.TheConstants.{TAKES_A_LINE}
 use Rattle.cells_cli.specs.ScriptLines.{script_lines_of}
 use Rattle.cells_cli.specs.Script.{Numbered, done_with, lines_done, line_refused, reading_of, refused_with}
 use Rattle.cells_cli.specs.Told.{Item, Telling, items_text, numbered, numbered_broken, telling_text}
@@ -120,11 +117,6 @@ pub record SoFar {W D N : Type 0} (w : SinkGhosts W) (d : DiskGhosts D) (n : Wir
   pub lines : IsTrue tells → numbered items ++ lines_done given ahead ≡ wanted
   pub refuses : IsTrue tells → line_refused given ahead ≡ refused
   pub written : WritesAll w out out_now (items_text items)
-
--- how far a line takes the counts that have an end
-pub record CountsOn (old new : Cluster) : Type 0 where
-  pub takes : new.takes ≤ old.takes + TAKES_A_LINE
-  pub drawn : (most : ℕ) → DrewFewer most old → DrewFewer (most + 1) new
 
 -- a script that was done was read to its end
 abbrev pub ReadsAll : {S : Type 0} → SourceGhosts S → S → Result (Unit {0}) UpStop → Type 0

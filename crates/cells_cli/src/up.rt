@@ -1,13 +1,12 @@
 //! The command `up`: a script over the service and its cells.
-ghost use Rattle.std.specs.Prelude.{◌≡◌, ◌≤◌, ◌<◌, ℕ, IsTrue, [], OnOk};
+ghost use Rattle.std.specs.Prelude.{◌≡◌, ◌≤◌, ◌<◌, ◌+◌, ℕ, IsTrue, [], OnOk};
 ghost use Rattle.cell_registry.specs.Bounds.{is_registry};
-ghost use Rattle.claim_types.specs.declared.limits.TheConstants.{GREATEST_ATTEMPT};
 ghost use Rattle.cells_script.specs.declared.limits.TheConstants.{LINE_BYTES};
 ghost use Rattle.cells_world.specs.Cluster.{IsReady};
-ghost use Rattle.cells_world.specs.Lines.{DrewFewer, IsBuilt};
+ghost use Rattle.cells_world.specs.Lines.{IsBuilt};
 ghost use Rattle.cells_world.specs.World.{at as moment};
 ghost use Rattle.cells_world.specs.declared.limits.TheConstants.{MOST_TAKES, TAKES_A_LINE};
-ghost use Rattle.cells_cli.specs.Doing.{CountsOn, DoesLine, DoesScript, DoesText, HasItsCause, HasLineCause, ReadsAll, ended, stopped_by, EndsSo};
+ghost use Rattle.cells_cli.specs.Doing.{DoesLine, DoesScript, DoesText, HasItsCause, HasLineCause, ReadsAll, ended, stopped_by, EndsSo};
 ghost use Rattle.cells_cli.specs.Ups.{OpensSo, Ups};
 ghost use Rattle.cells_cli.specs.declared.up.UpStop.TheVariants.{Memory, Cluster as OfCluster};
 
@@ -77,11 +76,10 @@ fn do_line<W: Sink, D: Disk, N: Wire, C: Clock>(
 ) -> Result<(), UpStop>
     requires ready { IsReady D.Disk disk.old cluster.old }
     requires takes { cluster.old.takes < MOST_TAKES }
-    requires drawn { DrewFewer GREATEST_ATTEMPT cluster.old }
     requires built { IsBuilt line.now }
     ensures does { DoesLine W.Sink D.Disk N.Wire number line.now (moment cluster.old disk.old wire.old)
         (moment cluster.new disk.new wire.new) out.old out.new result }
-    ensures counts { OnOk result (CountsOn cluster.old cluster.new) }
+    ensures takes { OnOk result (cluster.new.takes ≤ cluster.old.takes + TAKES_A_LINE) }
     ensures cause { HasLineCause W.Sink D.Disk out.old out.new disk.old disk.new result }
     ensures later { (W.faults out.old ≤ W.faults out.new) × (D.faults disk.old ≤ D.faults disk.new) }
 {
@@ -132,10 +130,9 @@ fn take_line<W: Sink, D: Disk, N: Wire, C: Clock>(
 ) -> Result<(), UpStop>
     requires ready { IsReady D.Disk disk.old cluster.old }
     requires takes { cluster.old.takes < MOST_TAKES }
-    requires drawn { DrewFewer GREATEST_ATTEMPT cluster.old }
     ensures does { DoesText W.Sink D.Disk N.Wire number text.now (moment cluster.old disk.old wire.old)
         (moment cluster.new disk.new wire.new) out.old out.new result }
-    ensures counts { OnOk result (CountsOn cluster.old cluster.new) }
+    ensures takes { OnOk result (cluster.new.takes ≤ cluster.old.takes + TAKES_A_LINE) }
     ensures cause { HasLineCause W.Sink D.Disk out.old out.new disk.old disk.new result }
     ensures later { (W.faults out.old ≤ W.faults out.new) × (D.faults disk.old ≤ D.faults disk.new) }
 {
@@ -162,7 +159,6 @@ fn do_lines<S: Source, W: Sink, D: Disk, N: Wire, C: Clock>(
 ) -> Result<(), UpStop>
     requires ready { IsReady D.Disk disk.old cluster.old }
     requires takes { cluster.old.takes ≡ 0 }
-    requires drawn { DrewFewer 1 cluster.old }
     requires fresh { (lines.old.given ≡ 0) × (lines.old.pending ≡ []) × (lines.old.limit ≡ LINE_BYTES) }
     ensures does { DoesScript S.Source W.Sink D.Disk N.Wire script.old (moment cluster.old disk.old wire.old)
         (moment cluster.new disk.new wire.new) out.old out.new result }

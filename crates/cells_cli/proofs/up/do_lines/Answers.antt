@@ -2,7 +2,6 @@ use Rattle.std.proofs.Common.{◌≡◌, ◌+◌, ◌*◌, ◌<◌, ◌≤◌, �
 use Rattle.std.proofs.lemmas.Result.{err_from_is_err_and}
 use Rattle.cells_script.specs.declared.limits.TheConstants.{LINE_BYTES}
 use Rattle.cells_world.specs.Cluster.{IsReady}
-use Rattle.cells_world.specs.Lines.{DrewFewer}
 use Rattle.cells_world.specs.World.{at as moment}
 use Rattle.cells_world.specs.declared.limits.TheConstants.{TAKES_A_LINE}
 use Rattle.cells_cli.specs.Doing.{Does, DoesText, EndsSo, HasItsCause, HasLineCause, SoFar, ended, stop_of}
@@ -29,7 +28,6 @@ loop-cluster-init g c =
           (subst (λ (x : List ℕ). SoFar g.W.Sink g.D.Disk g.N.Wire g.S.Source.tells wanted refused 0 (script_lines_of x) before before c.args.out.now c.args.out.now) ahead start);
       ready = c.requires.ready;
       takes = omega (arith, c.requires.takes);
-      drawn = λ a there. omega (arith, c.requires.drawn a there);
       limit = c.requires.fresh.2;
       read = omega arith;
       write = omega arith;
@@ -54,12 +52,10 @@ loop-cluster-preserved g c =
     (λ s. gives_next c.in_ok-next_script_line.field-0 _ _ _ c.if-branch.true (c.in_ok-next_script_line.ensures.next s) ∙ ap (λ (l : List ℕ). l ∷ rest) (sym c.line.ensures)) in
     let does = subst (λ k. DoesText g.W.Sink g.D.Disk g.N.Wire k text mid after c.loop-cluster.out c.take_line.new.out (Ok tt)) number c.in_ok-take_line.ensures.does in
     let so_now = so_far_more g.W.Sink g.D.Disk g.N.Wire g.S.Source.tells wanted refused n text rest before mid after c.args.out.now c.loop-cluster.out c.take_line.new.out so few c.requires.ready.configured does in
-    let counts = c.in_ok-take_line.ensures.counts in
     record {
       so_far = subst (λ (k : ℕ). SoFar g.W.Sink g.D.Disk g.N.Wire g.S.Source.tells wanted refused k rest before after c.args.out.now c.take_line.new.out) (sym counted) so_now;
       ready = subst (λ x. IsReady g.D.Disk x.disk x.cluster) (does.ends tt) does.ready;
-      takes = omega (arith, counts.takes, c.loop-cluster.invariant.takes, counted);
-      drawn = λ a there. (let few_more = counts.drawn (n + 1) c.loop-cluster.invariant.drawn a there in omega (arith, few_more, counted));
+      takes = omega (arith, c.in_ok-take_line.ensures.takes, c.loop-cluster.invariant.takes, counted);
       limit = c.in_ok-next_script_line.ensures.limit ∙ c.loop-cluster.invariant.limit;
       read = omega (arith, c.in_ok-next_script_line.ensures.later, c.loop-cluster.invariant.read);
       write = omega (arith, c.in_ok-take_line.ensures.later.0, c.loop-cluster.invariant.write);

@@ -1,7 +1,6 @@
 use Rattle.std.proofs.Common.{◌≡◌, ◌≤◌, ◌++◌, ◌+◌, ◌-◌, ◌*◌}
 use Rattle.cells_script.specs.declared.limits.TheConstants.{LINE_BYTES}
 use Rattle.cells_world.specs.Cluster.{IsReady}
-use Rattle.cells_world.specs.Lines.{DrewFewer}
 use Rattle.cells_world.specs.World.{at as moment}
 use Rattle.cells_world.specs.declared.limits.TheConstants.{TAKES_A_LINE}
 use Rattle.cells_cli.specs.Doing.{SoFar}
@@ -15,7 +14,6 @@ invariant-loop-cluster g l =
       so_far : SoFar g.W.Sink g.D.Disk g.N.Wire g.S.Source.tells (lines_done 0 script) (line_refused 0 script) l.lines.given (script_lines_of (l.lines.pending ++ g.S.Source.left l.script)) (moment l.fn.cluster l.fn.disk l.fn.wire) (moment l.cluster l.disk l.wire) l.fn.out l.out;
       ready : IsReady g.D.Disk l.disk l.cluster;
       takes : l.cluster.takes ≤ TAKES_A_LINE * l.lines.given;
-      drawn : DrewFewer (l.lines.given + 1) l.cluster;
       limit : l.lines.limit ≡ LINE_BYTES;
       read : g.S.Source.faults l.fn.script ≤ g.S.Source.faults l.script;
       write : g.W.Sink.faults l.fn.out ≤ g.W.Sink.faults l.out;

@@ -16,3 +16,4 @@ pub mod Acting
 pub mod Reconcile
 pub mod Wanting
 pub mod Following
+pub mod Growing

@@ -16,6 +16,7 @@ ghost use Rattle.claim_types.specs.declared.rule.Rule.TheVariants.{Memory as Rul
 ghost use Rattle.claim_laws.specs.Acts.{packet_of as asked_packet};
 ghost use Rattle.claim_laws.specs.Nodes.{due_attempts, without_attempts};
 ghost use Rattle.reconciler.specs.Agent.{kept_by, IsAgent, IsSameAgent};
+ghost use Rattle.cells_world.specs.Ending.{GoesOn, NotesMore};
 ghost use Rattle.cells_world.specs.Opening.{IsNew, IsOpenEnd, Opens, StandsStill};
 ghost use Rattle.cells_world.specs.declared.limits.TheConstants.{MOST_TAKES, TAKES_A_LINE};
 ghost use Rattle.cells_world.specs.Cluster.{IsReady, IsPlaceOf, Lacks, noted_by, traced_by, IsEndOf, IsSameBeside, IsSameButWire, IsSameCluster, SendsOnly};
@@ -242,6 +243,7 @@ impl Cluster {
         ensures ready { OnOk result (IsReady D.Disk disk.new self.new) }
         ensures end { IsEndOf D.Disk disk.old disk.new result }
         ensures handed { IsTrue N.tells → N.handed wire.new ≡ N.handed wire.old }
+        ensures grows { OnOk result (GoesOn self.old self.new) }
         ensures same { IsSameCluster self.old self.new }
         ensures later { (D.faults disk.old ≤ D.faults disk.new) × (N.faults wire.old ≤ N.faults wire.new) }
     {
@@ -284,6 +286,7 @@ impl Cluster {
         ensures sends { OnOk result (SendsSome N.Wire wire.old wire.new self.old.post self.new.post) }
         ensures ready { OnOk result (IsReady D.Disk disk.new self.new) }
         ensures end { IsEndOf D.Disk disk.old disk.new result }
+        ensures grows { OnOk result (GoesOn self.old self.new) }
         ensures takes { self.new.takes ≤ self.old.takes + 1 }
         ensures registry { self.new.registry ≡ self.old.registry }
         ensures waited { self.new.waited ≡ self.old.waited }
@@ -321,6 +324,7 @@ impl Cluster {
         ensures sends { OnOk result (SendsSome N.Wire wire.old wire.new self.old.post self.new.post) }
         ensures ready { OnOk result (IsReady D.Disk disk.new self.new) }
         ensures end { IsEndOf D.Disk disk.old disk.new result }
+        ensures grows { OnOk result (GoesOn self.old self.new) }
         ensures takes { self.new.takes ≤ self.old.takes + TAKES_A_LINE }
         ensures registry { self.new.registry ≡ self.old.registry }
         ensures waited { self.new.waited ≡ self.old.waited }
@@ -367,6 +371,7 @@ impl Cluster {
         ensures acts { OnOk result ((now : ℕ) → Acts now (LineRange cell number) self.old self.new) }
         ensures ready { OnOk result (IsReady D.Disk disk.now self.new) }
         ensures agents { self.new.cells.items ≡ self.old.cells.items }
+        ensures notes { OnOk result (NotesMore self.old self.new) }
         ensures handed { IsTrue N.tells → N.handed wire.new ≡ N.handed wire.old }
         ensures later { N.faults wire.old ≤ N.faults wire.new }
         ensures same { IsSameBeside self.old self.new }
@@ -398,6 +403,7 @@ impl Cluster {
         ensures acts { OnOk result (Acts now line.now self.old self.new) }
         ensures ready { OnOk result (IsReady D.Disk disk.now self.new) }
         ensures end { IfErr result (λ e. e ≡ ClusterError.Memory) }
+        ensures notes { OnOk result (NotesMore self.old self.new) }
         ensures handed { IsTrue N.tells → N.handed wire.new ≡ N.handed wire.old }
         ensures later { N.faults wire.old ≤ N.faults wire.new }
         ensures same { IsSameBeside self.old self.new }
@@ -434,6 +440,7 @@ impl Cluster {
         requires ready { IsReady D.Disk disk.now self.old }
         ensures acts { OnOk result (Acts now (Reconcile cell) self.old self.new) }
         ensures ready { OnOk result (IsReady D.Disk disk.now self.new) }
+        ensures notes { OnOk result (NotesMore self.old self.new) }
         ensures handed { IsTrue N.tells → N.handed wire.new ≡ N.handed wire.old }
         ensures later { N.faults wire.old ≤ N.faults wire.new }
         ensures same { IsSameBeside self.old self.new }
@@ -511,6 +518,7 @@ impl Cluster {
         ensures acts { OnOk result (Acts now line.now self.old self.new) }
         ensures ready { OnOk result (IsReady D.Disk disk.now self.new) }
         ensures end { IfErr result (λ e. e ≡ ClusterError.Memory) }
+        ensures notes { OnOk result (NotesMore self.old self.new) }
         ensures handed { IsTrue N.tells → N.handed wire.new ≡ N.handed wire.old }
         ensures later { N.faults wire.old ≤ N.faults wire.new }
         ensures same { IsSameBeside self.old self.new }
@@ -665,6 +673,7 @@ impl Cluster {
         ensures ready { OnOk result (IsReady D.Disk disk.new self.new) }
         ensures registry { self.new.registry ≡ self.old.registry }
         ensures takes { OnOk result (self.new.takes ≤ self.old.takes + TAKES_A_LINE) }
+        ensures grows { OnOk result (GoesOn self.old self.new) }
         ensures end { IsEndOf D.Disk disk.old disk.new result }
         ensures later { (D.faults disk.old ≤ D.faults disk.new) × (N.faults wire.old ≤ N.faults wire.new) }
     {

@@ -8,6 +8,7 @@ use Rattle.cells_world.proofs.Posted.{items_of}
 use Rattle.cells_world.specs.World.{IsIn}
 use Rattle.cells_world.specs.declared.cluster.Cluster.{Cluster}
 use Rattle.cells_world.proofs.Acting.{same_in}
+use Rattle.cells_world.proofs.Growing.{notes_same}
 use Rattle.cells_world.proofs.Ready.{ready_sent}
 use Rattle.cells_world.proofs.Wanting.{own_nothing}
 use Rattle.cells_world.proofs.cluster.Cluster.begin.Goals as goal
@@ -29,6 +30,7 @@ returns-in_ok-begin_on_wire-in_default-line g c =
       ready = ready_sent g.D.Disk c.args.disk.now old new c.requires.ready same.registry
           (λ m s there. c.requires.ready.packets m s (ap (λ v. slice_get (items_of v) m) (sym same.sent) ∙ there))
           same.service (ap (λ v. v.items) same.cells);
+      notes = notes_same old new (ap (λ v. v.items) same.notes);
       end = tt;
       handed = c.begin_on_wire.ensures.handed;
       later = c.begin_on_wire.ensures.later;

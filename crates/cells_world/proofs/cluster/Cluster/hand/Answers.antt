@@ -1,4 +1,4 @@
-use Rattle.std.proofs.Common.{◌≡◌, ◌<◌, ℕ, List, refl, sym, ◌∙◌, ap, subst, Some, length, get_or, ◌+◌, ◌++◌, ◌∷◌, [], arith}
+use Rattle.std.proofs.Common.{◌≡◌, ◌<◌, ℕ, List, refl, sym, ◌∙◌, ap, subst, Some, None, length, get_or, ◌+◌, ◌++◌, ◌∷◌, [], arith}
 use Rattle.std.specs.Prelude.{map as list_map}
 use Rattle.std.specs.List.{Contains, slice_get}
 use Rattle.std.specs.Vec.{with_item}
@@ -25,6 +25,7 @@ use Rattle.cells_world.specs.declared.message.Message.TheVariants.{Ask as AsAsk,
 use Rattle.cells_world.specs.declared.post.Post.{Post}
 use Rattle.cells_world.specs.declared.post.Sent.{Sent}
 use Rattle.cells_world.proofs.Asked.{sends_bounds}
+use Rattle.cells_world.proofs.Growing.{grows_by, grows_none}
 use Rattle.cells_world.proofs.Heard.{heard_leads, nobody_leads, receiver_is, reply_comes}
 use Rattle.cells_world.proofs.Places.{puts_set, agents_set, same_some}
 use Rattle.cells_world.proofs.Posted.{mapped}
@@ -209,3 +210,52 @@ returns-in_ok-send_requests-in-Answer-clause-ready g c =
       (puts_set old.registry old.cells.items c.in-Some.place k c.hear.new.agent c.requires.ready.agents there same)
       (agents_set old.registry old.cells.items c.in-Some.place k c.hear.new.agent c.requires.ready.agents there same)
       c.in_ok-told-in-Answer.ensures.ready c.hear.ensures.others
+
+pub returns-in_default-clause-grows : goal.returns-in_default-clause-grows
+returns-in_default-clause-grows g c = grows_none c.args.self.now
+    (record {
+      registry = c.args.self.now.registry;
+      service = c.args.self.now.service;
+      cells = c.args.self.now.cells;
+      post = c.args.self.now.post;
+      trace = c.reserve.new.self;
+      notes = c.reserve-2.new.self;
+      takes = c.args.self.now.takes;
+      waited = c.args.self.now.waited;
+      course = c.args.self.now.course;
+    })
+    c.reserve.ensures.items c.reserve-2.ensures.items
+
+pub returns-in_ok-send-in-Ask-clause-grows : goal.returns-in_ok-send-in-Ask-clause-grows
+returns-in_ok-send-in-Ask-clause-grows g c = grows_by c.args.self.now
+    (record {
+      registry = c.args.self.now.registry;
+      service = c.serve.new.service;
+      cells = c.args.self.now.cells;
+      post = c.send.new.self;
+      trace = c.trace.new.trace;
+      notes = c.reserve-2.new.self;
+      takes = c.args.self.now.takes;
+      waited = c.args.self.now.waited;
+      course = c.args.self.now.course;
+    })
+    c.in_ok-served-in-Ask.served.step None
+    (c.trace.ensures ∙ ap (λ t. traced_by c.in_ok-served-in-Ask.served.step c.args.self.now.takes t) c.reserve.ensures.items)
+    c.reserve-2.ensures.items
+
+pub returns-in_ok-send_requests-in-Answer-clause-grows : goal.returns-in_ok-send_requests-in-Answer-clause-grows
+returns-in_ok-send_requests-in-Answer-clause-grows g c = grows_by c.args.self.now
+    (record {
+      registry = c.args.self.now.registry;
+      service = c.args.self.now.service;
+      cells = with_item c.args.self.now.cells c.in-Some.place c.hear.new.agent;
+      post = c.send_requests.new.self;
+      trace = c.trace-in-Answer.new.trace;
+      notes = c.note.new.notes;
+      takes = c.args.self.now.takes;
+      waited = c.args.self.now.waited;
+      course = c.args.self.now.course;
+    })
+    c.in_ok-told-in-Answer.told.step c.in_ok-told-in-Answer.told.ended
+    (c.trace-in-Answer.ensures ∙ ap (λ t. traced_by c.in_ok-told-in-Answer.told.step c.args.self.now.takes t) c.reserve.ensures.items)
+    (c.note.ensures ∙ ap (λ t. noted_by c.in_ok-told-in-Answer.told.ended t) c.reserve-2.ensures.items)

@@ -1,5 +1,6 @@
 use Rattle.std.proofs.Common.{◌≡◌, ◌≤◌, ◌++◌, [], refl, sym, ◌∙◌, ap, subst, arith}
 use Rattle.cells_world.specs.World.{at as moment}
+use Rattle.cells_world.proofs.Growing.{grows_none, grows_on}
 use Rattle.cells_world.proofs.Going.{hands_nothing, hands_on}
 use Rattle.cells_world.proofs.Sending.{sends_nothing, sends_on}
 use Rattle.cells_world.proofs.cluster.Cluster.take_all.Goals as goal
@@ -10,6 +11,7 @@ loop-init g c = record {
   ready = c.requires.ready;
   hands = hands_nothing g.D.Disk g.N.Wire (moment c.args.self.now c.args.disk.now c.args.wire.now) g.met.D.Disk.only_now c.requires.ready;
   sends = ([], sends_nothing g.N.Wire c.args.wire.now c.args.wire.now c.args.self.now.post c.args.self.now.post refl refl (λ tells. refl));
+  grows = grows_none c.args.self.now c.args.self.now refl refl;
   takes = omega arith;
   registry = refl;
   waited = refl;
@@ -38,9 +40,13 @@ loop-preserved g c =
       hands = hands_on g.D.Disk g.N.Wire (moment c.args.self.now c.args.disk.now c.args.wire.now) (moment c.loop.self c.loop.disk c.loop.wire) (moment c.take_one.new.self c.take_one.new.disk c.take_one.new.wire)
           c.loop.invariant.registry c.requires.ready.configured c.loop.invariant.hands c.in_ok-take_one.ensures.hands;
       sends = (before.0 ++ now.0, sends_on g.N.Wire c.args.wire.now c.loop.wire c.take_one.new.wire c.args.self.now.post c.loop.self.post c.take_one.new.self.post before.0 now.0 before.1 now.1);
+      grows = grows_on c.args.self.now c.loop.self c.take_one.new.self c.loop.invariant.grows c.in_ok-take_one.ensures.grows;
       takes = let a = c.loop.invariant.takes in let b = c.take_one.ensures.takes in omega (arith, a, b);
       registry = c.take_one.ensures.registry ∙ c.loop.invariant.registry;
       waited = c.take_one.ensures.waited ∙ c.loop.invariant.waited;
       disk_later = let a = c.loop.invariant.disk_later in let b = c.take_one.ensures.later.0 in omega (arith, a, b);
       wire_later = let a = c.loop.invariant.wire_later in let b = c.take_one.ensures.later.1 in omega (arith, a, b);
     }
+
+pub returns-then-not-branch-clause-grows : goal.returns-then-not-branch-clause-grows
+returns-then-not-branch-clause-grows g c = grows_on c.args.self.now c.loop.self c.take_one.new.self c.loop.invariant.grows c.in_ok-take_one.ensures.grows

@@ -3,6 +3,7 @@ use Rattle.std.specs.Prelude.{Ok}
 use Rattle.cells_edge.specs.Wire.{IsTaken}
 use Rattle.cells_world.specs.World.{at as moment}
 use Rattle.cells_world.specs.declared.cluster.Cluster.{Cluster}
+use Rattle.cells_world.proofs.Growing.{grows_from, grows_none}
 use Rattle.cells_world.proofs.Going.{hands_none, hands_sent, hands_stray}
 use Rattle.cells_world.proofs.Posted.{sent_within}
 use Rattle.cells_world.proofs.cluster.Cluster.take_one.Goals as goal
@@ -54,3 +55,39 @@ returns-clause-hands g c =
     hands_stray g.D.Disk g.N.Wire (moment c.args.self.now c.args.disk.now c.args.wire.now) counted c.in-Ok-Some.packet
       (record { registry = refl; service = refl; cells = refl; sent = refl; trace = refl; notes = refl; takes = refl })
       c.take.new.self g.met.D.Disk.only_now c.requires.ready c.in-None.ensures.missing (λ tells. subst (λ o. IsTaken (Ok o) (g.N.Wire.handed c.args.wire.now) (g.N.Wire.handed c.take.new.self)) c.in-Ok-Some.field-0-is (c.in-Ok-Some.ensures.handed tells))
+
+pub returns-in-Ok-None-clause-grows : goal.returns-in-Ok-None-clause-grows
+returns-in-Ok-None-clause-grows g c = grows_none c.args.self.now c.args.self.now refl refl
+
+pub returns-in-Err-Failed-clause-grows : goal.returns-in-Err-Failed-clause-grows
+returns-in-Err-Failed-clause-grows g c = grows_none c.args.self.now c.args.self.now refl refl
+
+pub returns-in-Some-clause-grows : goal.returns-in-Some-clause-grows
+returns-in-Some-clause-grows g c = grows_from c.args.self.now
+    (record {
+      registry = c.args.self.now.registry;
+      service = c.args.self.now.service;
+      cells = c.args.self.now.cells;
+      post = c.args.self.now.post;
+      trace = c.args.self.now.trace;
+      notes = c.args.self.now.notes;
+      takes = c.args.self.now.takes + 1;
+      waited = c.args.self.now.waited;
+      course = c.after-self.result;
+    })
+    c.hand.new.self refl refl c.in_ok-hand-in-Some.ensures.grows
+
+pub returns-clause-grows : goal.returns-clause-grows
+returns-clause-grows g c = grows_none c.args.self.now
+    (record {
+      registry = c.args.self.now.registry;
+      service = c.args.self.now.service;
+      cells = c.args.self.now.cells;
+      post = c.args.self.now.post;
+      trace = c.args.self.now.trace;
+      notes = c.args.self.now.notes;
+      takes = c.args.self.now.takes + 1;
+      waited = c.args.self.now.waited;
+      course = c.args.self.now.course;
+    })
+    refl refl

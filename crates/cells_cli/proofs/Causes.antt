@@ -1,5 +1,5 @@
 -- Causes of stops, from an earlier moment.
-use Rattle.std.proofs.Common.{◌≡◌, ℕ, ◌+◌, ◌-◌, ◌^◌, ◌≤◌, min, Result, Ok, Err, arith}
+use Rattle.std.proofs.Common.{ℕ, ◌≤◌, Err, arith}
 use Rattle.cells_base.specs.Causes.{Rose}
 use Rattle.cells_edge.specs.declared.sink.Sink.{Ghosts as SinkGhosts}
 use Rattle.cells_edge.specs.declared.source.Source.{Ghosts as SourceGhosts}

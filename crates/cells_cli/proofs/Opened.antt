@@ -1,11 +1,11 @@
 -- What a run of a script comes to, from what its opening and its lines came to.
-use Rattle.std.proofs.Common.{◌≡◌, ◌⊎◌, inl, inr, ℕ, ◌+◌, ◌-◌, ◌^◌, ◌≤◌, min, IsTrue, List, [], ◌∷◌, ◌++◌, Option, Some, None, Result, Ok, Err, refl, sym, ◌∙◌, ap, subst, arith}
+use Rattle.std.proofs.Common.{◌≡◌, inl, inr, ℕ, ◌≤◌, IsTrue, List, [], ◌++◌, Result, Ok, Err, refl, sym, ◌∙◌, ap, subst, arith}
 use Rattle.std.proofs.lemmas.List.{append-nil}
 use Rattle.cells_base.specs.Causes.{Rose}
 use Rattle.cells_edge.specs.declared.sink.Sink.{Ghosts as SinkGhosts}
 use Rattle.cells_edge.specs.declared.source.Source.{Ghosts as SourceGhosts}
 use Rattle.cells_edge.specs.declared.wire.Wire.{Ghosts as WireGhosts}
-use Rattle.disk_journal.specs.Disk.{Image, IsImage}
+use Rattle.disk_journal.specs.Disk.{IsImage}
 use Rattle.disk_journal.specs.declared.disk.Disk.{Ghosts as DiskGhosts}
 use Rattle.claim_types.specs.declared.step.Transition.{Transition}
 use Rattle.claim_map.specs.Bounds.{AreCells}
@@ -13,28 +13,27 @@ use Rattle.claim_map.specs.Legal.{IsRun, replay}
 use Rattle.claim_map.specs.Registry.{Registry}
 use Rattle.claim_map.specs.State.{ClaimMap}
 use Rattle.claim_map.proofs.Configured.{wide_of}
-use Rattle.claim_laws.specs.Events.{Event, run}
+use Rattle.claim_laws.specs.Events.{run}
 use Rattle.claim_laws.specs.Facts.{IsInOrder}
 use Rattle.claim_laws.specs.Proper.{AreConfigured}
 use Rattle.claim_laws.specs.World.{World}
 use Rattle.claim_laws.proofs.Law.{run-in_order, start-in_order}
 use Rattle.claim_laws.proofs.Opened.{opened_is_start}
-use Rattle.cells_world.specs.Cluster.{IsEndOf}
-use Rattle.cells_world.specs.Opening.{IsNew, IsOpenEnd, Opens, StandsStill}
+use Rattle.cells_world.specs.Opening.{IsNew, Opens, StandsStill}
 use Rattle.cells_world.specs.World.{At, at as moment, AreGiven, IsOf}
 use Rattle.cells_world.specs.declared.cluster.Cluster.{Cluster}
 use Rattle.cells_world.specs.declared.fault.ClusterError.{ClusterError}
 use Rattle.cells_world.specs.declared.fault.ClusterError.TheVariants.{DiskFailed, Memory as NoRoom, Damaged}
 use Rattle.cells_world.specs.declared.fault.Damage.TheVariants.{NotAJournal as NoJournal, BadEntry as RefusedEntry, ConfigLacks as LacksCell, EpochsSpent as SpentEpochs}
 use Rattle.cells_world.proofs.Served.{ready_is_of}
-use Rattle.cells_cli.specs.Doing.{Does, DoesScript, EndsSo, HasItsCause, ended, status_of_cluster}
+use Rattle.cells_cli.specs.Doing.{Does, EndsSo, HasItsCause, status_of_cluster}
 use Rattle.cells_cli.specs.ScriptLines.{script_lines_of}
 use Rattle.cells_cli.specs.Script.{line_refused, lines_done}
 use Rattle.cells_cli.specs.Told.{Telling, lines_told, steps_told}
-use Rattle.cells_cli.specs.Ups.{HandsThese, OpensSo, Traces, Ups, WhereOpened, nothing_told}
+use Rattle.cells_cli.specs.Ups.{OpensSo, Traces, Ups, WhereOpened, nothing_told}
 use Rattle.cells_cli.specs.Went.{Brings}
 use Rattle.cells_cli.specs.declared.status.Status.{Status}
-use Rattle.cells_cli.specs.declared.status.Status.TheVariants.{End, Usage, ConfigRegistry, ConfigRules, ConfigLacks, ConfigLong, Script, ReadFault, WriteFault, Memory, DiskFault, NotAJournal, BadEntry, FileInUse, Unheard, EpochsSpent}
+use Rattle.cells_cli.specs.declared.status.Status.TheVariants.{End, Script, Memory}
 use Rattle.cells_cli.specs.declared.up.UpStop.{UpStop}
 use Rattle.cells_cli.specs.declared.up.UpStop.TheVariants.{Script as ScriptStop, ReadFault as ReadStop, WriteFault as WriteStop, Memory as MemoryStop, Cluster as ClusterStop}
 use Rattle.cells_cli.proofs.Causes.{rose_earlier}

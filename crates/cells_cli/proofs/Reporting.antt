@@ -1,20 +1,18 @@
 -- The report of a run with a script, from what was told and how its last line was written.
-use Rattle.std.proofs.Common.{◌≡◌, ◌≢◌, ◌⊎◌, inl, inr, ℕ, Bool, IsTrue, List, [], ◌∷◌, ◌++◌, Option, Some, None, Result, Ok, Err, append_assoc, refl, sym, ◌∙◌, ap, subst}
+use Rattle.std.proofs.Common.{◌≡◌, ◌≢◌, ◌⊎◌, inl, inr, ℕ, Bool, IsTrue, List, [], ◌++◌, Option, Result, Ok, Err, append_assoc, refl, sym, ◌∙◌, ap, subst}
 use Rattle.std.proofs.lemmas.List.{append-nil}
-use Rattle.cells_edge.specs.Edge.{IsPrefix}
-use Rattle.cells_edge.specs.Streams.{SourceFails, SinkFails, WritesAll, WritesFront}
+use Rattle.cells_edge.specs.Streams.{SourceFails, WritesAll}
 use Rattle.cells_edge.specs.declared.sink.Sink.{Ghosts as SinkGhosts}
 use Rattle.cells_edge.specs.declared.source.Source.{Ghosts as SourceGhosts}
 use Rattle.cells_edge.specs.declared.wire.Wire.{Ghosts as WireGhosts}
 use Rattle.disk_journal.specs.declared.disk.Disk.{Ghosts as DiskGhosts}
 use Rattle.claim_map.specs.Registry.{Registry}
-use Rattle.cells_world.specs.declared.fault.ClusterError.{ClusterError}
 use Rattle.cells_world.specs.declared.fault.ClusterError.TheVariants.{DiskFailed, Memory as NoRoom, Damaged}
 use Rattle.cells_world.specs.declared.fault.Damage.TheVariants.{NotAJournal as NoJournal, BadEntry as RefusedEntry, ConfigLacks as LacksCell, EpochsSpent as SpentEpochs}
 use Rattle.cells_cli.specs.Config.{Job, Configures, does_lines, status_of_config}
 use Rattle.cells_cli.specs.declared.config.ConfigFault.{ConfigFault}
 use Rattle.cells_cli.specs.declared.config.ConfigFault.TheVariants.{Read, Long, Refused, NoSuchCell, Memory as NoSpace}
-use Rattle.cells_cli.specs.Doing.{AreFirst, AreTold, HasItsCause, IsWritten, ReadsAll, ended, status_of}
+use Rattle.cells_cli.specs.Doing.{AreFirst, AreTold, HasItsCause, IsWritten, status_of}
 use Rattle.cells_cli.specs.Installed.{DiskFails}
 use Rattle.cells_cli.specs.ScriptLines.{script_lines_of}
 use Rattle.cells_cli.specs.Report.{IsReport, WritesFrontOf}
@@ -23,7 +21,7 @@ use Rattle.cells_cli.specs.Status.{last_line}
 use Rattle.cells_cli.specs.Told.{Telling, numbered, numbered_broken, telling_text}
 use Rattle.cells_cli.specs.Ups.{EndsUp, EndsUpAt, IsDamaged, IsReportOf, IsUpped, OpensSo, RunsUp, Traces, Ups, WhereOpened, nothing_told}
 use Rattle.cells_cli.specs.declared.status.Status.{Status}
-use Rattle.cells_cli.specs.declared.status.Status.TheVariants.{End, Usage, ConfigRegistry, ConfigRules, ConfigLacks, ConfigLong, Script, ReadFault, WriteFault, Memory, DiskFault, NotAJournal, BadEntry, FileInUse, Unheard, EpochsSpent}
+use Rattle.cells_cli.specs.declared.status.Status.TheVariants.{End, Script, ReadFault, WriteFault, Memory}
 use Rattle.cells_cli.specs.declared.up.UpStop.{UpStop}
 use Rattle.cells_cli.specs.declared.up.UpStop.TheVariants.{Script as ScriptStop, ReadFault as ReadStop, WriteFault as WriteStop, Memory as MemoryStop, Cluster as ClusterStop}
 use Rattle.cells_cli.proofs.Reported.{EndsWith}

@@ -1,8 +1,7 @@
 -- The lines of a script, done one after another.
-use Rattle.std.proofs.Common.{◌≡◌, ◌≢◌, ◌⊎◌, inl, inr, ◌||◌, ℕ, ◌+◌, ◌<◌, ◌≤◌, Bool, true, false, cond, nat_lt, nat_le, IsTrue, List, [], ◌∷◌, ◌++◌, length, Option, Some, None, Result, Ok, Err, refl, sym, ◌∙◌, ap, subst, append_assoc, arith}
+use Rattle.std.proofs.Common.{◌≡◌, ◌⊎◌, inl, inr, ◌||◌, ℕ, ◌+◌, ◌<◌, Bool, true, false, cond, nat_lt, nat_le, IsTrue, List, [], ◌∷◌, ◌++◌, length, Option, Some, None, refl, sym, ◌∙◌, ap, subst, append_assoc, arith}
 use Rattle.std.proofs.lemmas.Bool.Decides.{nat_tests}
 use Rattle.std.proofs.lemmas.List.{append-nil}
-use Rattle.cells_edge.specs.Edge.{IsPrefix}
 use Rattle.cells_edge.specs.Streams.{WritesAll, WritesFront}
 use Rattle.cells_edge.specs.declared.sink.Sink.{Ghosts as SinkGhosts}
 use Rattle.cells_edge.specs.declared.wire.Wire.{Ghosts as WireGhosts}
@@ -13,15 +12,14 @@ use Rattle.cells_script.specs.Lines.{line_of}
 use Rattle.cells_script.specs.declared.limits.TheConstants.{LINE_BYTES}
 use Rattle.cells_world.specs.Cluster.{IsReady}
 use Rattle.cells_world.specs.World.{At}
-use Rattle.cells_world.specs.declared.fault.ClusterError.{ClusterError}
 use Rattle.cells_world.specs.declared.fault.ClusterError.TheVariants.{DiskFailed, Memory as NoRoom, Damaged}
 use Rattle.cells_world.specs.declared.fault.Damage.TheVariants.{NotAJournal as NoJournal, BadEntry as RefusedEntry, ConfigLacks as LacksCell, EpochsSpent as SpentEpochs}
-use Rattle.cells_cli.specs.Doing.{AreFirst, AreTold, Does, IsWritten, SoFar, status_of, status_of_cluster, stop_of}
+use Rattle.cells_cli.specs.Doing.{AreFirst, Does, SoFar, status_of, stop_of}
 use Rattle.cells_cli.specs.Lines.{first_refused, IsNext}
 use Rattle.cells_cli.specs.ScriptLines.{script_lines_of}
 use Rattle.cells_cli.specs.Refused.{Refuses}
 use Rattle.cells_cli.specs.Script.{Numbered, done_with, is_skipped, line_refused, lines_done, reading_behind, reading_of, reading_with, refused_with}
-use Rattle.cells_cli.specs.Told.{Item, Broken, Telling, broken_text, items_text, numbered, numbered_broken, telling_text}
+use Rattle.cells_cli.specs.Told.{Item, Telling, broken_text, items_text, numbered, numbered_broken, telling_text}
 use Rattle.cells_cli.specs.Went.{Went}
 use Rattle.cells_cli.specs.declared.lines.LineFault.{LineFault}
 use Rattle.cells_cli.specs.declared.lines.LineFault.TheVariants.{TooLong, TooMany, Read}
@@ -29,11 +27,11 @@ use Rattle.cells_cli.specs.declared.lines.TheConstants.{LINES}
 use Rattle.cells_cli.specs.declared.reading.Reading.{Reading}
 use Rattle.cells_cli.specs.declared.reading.Reading.TheVariants.{Skipped, Wanted, Refused}
 use Rattle.cells_cli.specs.declared.status.Status.{Status}
-use Rattle.cells_cli.specs.declared.status.Status.TheVariants.{End, Script, ReadFault, WriteFault, Memory}
+use Rattle.cells_cli.specs.declared.status.Status.TheVariants.{End}
 use Rattle.cells_cli.specs.declared.up.UpStop.{UpStop}
 use Rattle.cells_cli.specs.declared.up.UpStop.TheVariants.{Script as ScriptStop, ReadFault as ReadStop, WriteFault as WriteStop, Memory as MemoryStop, Cluster as ClusterStop}
 use Rattle.cells_cli.proofs.Doing.{cluster_ended}
-use Rattle.cells_cli.proofs.Telling.{numbered_append, all_numbered_append, items_append, telling_append}
+use Rattle.cells_cli.proofs.Telling.{numbered_append, all_numbered_append, telling_append}
 use Rattle.cells_cli.proofs.Went.{went_on, went_nowhere}
 
 -- what one line gives is a front of what it gives with those behind it

@@ -1,5 +1,5 @@
 -- What lines brought about joins.
-use Rattle.std.proofs.Common.{◌≡◌, ℕ, IsTrue, List, [], ◌∷◌, ◌++◌, refl, sym, ◌∙◌, ap, subst, append_assoc}
+use Rattle.std.proofs.Common.{◌≡◌, ℕ, List, [], ◌∷◌, ◌++◌, refl, sym, ◌∙◌, ap, subst, append_assoc}
 use Rattle.std.proofs.lemmas.List.{append-nil}
 use Rattle.disk_journal.specs.declared.disk.Disk.{Ghosts}
 use Rattle.disk_journal.specs.Disk.{Image}
@@ -9,7 +9,6 @@ use Rattle.cells_edge.specs.declared.wire.Wire.{Ghosts as WireGhosts}
 use Rattle.claim_map.specs.Bounds.{AreCells}
 use Rattle.claim_map.specs.Registry.{Registry}
 use Rattle.claim_map.proofs.Configured.{wide_of}
-use Rattle.claim_map.specs.State.{ClaimMap}
 use Rattle.claim_types.specs.declared.rule.Note.{Note}
 use Rattle.claim_types.specs.declared.step.Transition.{Transition}
 use Rattle.claim_laws.specs.Events.{Event, happens, run}
@@ -20,7 +19,7 @@ use Rattle.cells_script.specs.declared.answer.Answer.{Answer}
 use Rattle.cells_script.specs.declared.line.Line.{Line}
 use Rattle.cells_world.specs.Cluster.{IsReady}
 use Rattle.cells_world.specs.Ending.{GoesOn}
-use Rattle.cells_world.specs.Lines.{AreOf, Follows, moment_of}
+use Rattle.cells_world.specs.Lines.{Follows, moment_of}
 use Rattle.cells_world.specs.World.{At, AreGiven, Goes, IsIn, IsOf, IsReached}
 use Rattle.cells_world.proofs.Going.{run_append}
 use Rattle.cells_world.proofs.Served.{ready_is_of}

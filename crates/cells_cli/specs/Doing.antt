@@ -1,5 +1,5 @@
 -- What doing the lines of a script comes to, by how it ended.
-use Rattle.std.specs.Prelude.{◌≡◌, ◌≤◌, ℕ, ◌+◌, Bool, true, IsTrue, List, [], ◌∷◌, ◌++◌, Option, Some, None, Result, Ok, Err}
+use Rattle.std.specs.Prelude.{◌≡◌, ℕ, ◌+◌, Bool, true, IsTrue, List, [], ◌∷◌, ◌++◌, Option, Some, None, Result, Ok, Err}
 use Rattle.cells_edge.specs.Streams.{WritesAll, WritesFront, SinkFails, SourceFails}
 use Rattle.cells_edge.specs.declared.sink.Sink.{Ghosts as SinkGhosts}
 use Rattle.cells_edge.specs.declared.source.Source.{Ghosts as SourceGhosts}

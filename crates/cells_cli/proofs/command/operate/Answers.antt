@@ -1,13 +1,12 @@
-use Rattle.std.proofs.Common.{◌≡◌, ◌≢◌, ◌⊎◌, Err, IsTrue, refl, sym, ◌∙◌, ap, subst, rules}
-use Rattle.cells_edge.specs.Streams.{SinkFails}
+use Rattle.std.proofs.Common.{◌≢◌, subst, rules}
 use Rattle.cells_cli.specs.Report.{WritesFrontOf}
 use Rattle.cells_cli.specs.declared.status.Status.{Status}
-use Rattle.cells_cli.specs.declared.status.Status.TheVariants.{End, Memory, WriteFault as WriteStatus}
+use Rattle.cells_cli.specs.declared.status.Status.TheVariants.{End}
 use Rattle.cells_cli.specs.declared.up.UpStop.TheVariants.{WriteFault}
 use Rattle.cells_cli.specs.Doing.{status_of}
 use Rattle.cells_cli.proofs.Causes.{rose_earlier}
 use Rattle.cells_cli.proofs.Reported.{EndsWith}
-use Rattle.cells_cli.proofs.Reporting.{finished, broke_off, ends_at, damaged, disk_fails, read_fails, ends_up, stop_ends_up, not_writing}
+use Rattle.cells_cli.proofs.Reporting.{finished, broke_off, ends_at, damaged, disk_fails, read_fails, stop_ends_up, not_writing}
 use Rattle.cells_cli.proofs.command.operate.Goals as goal
 
 pub returns-in-Ok-clause-runs : goal.returns-in-Ok-clause-runs

@@ -1,10 +1,10 @@
-use Rattle.std.proofs.Common.{◌≡◌, ℕ, List, ◌++◌, drop, length, sym, ◌∙◌, ap, subst}
+use Rattle.std.proofs.Common.{◌≡◌, List, ◌++◌, drop, length, sym, ◌∙◌, ap, subst}
 use Rattle.std.proofs.Math.Seq.{drop-append_seam}
 use Rattle.claim_types.specs.declared.rule.Note.{Note}
 use Rattle.claim_types.specs.declared.step.Transition.{Transition}
 use Rattle.cells_world.specs.World.{at as moment}
-use Rattle.cells_cli.specs.Doing.{DoesLine, Tells, stopped_by}
-use Rattle.cells_cli.specs.Told.{answered_text, broken_off_text}
+use Rattle.cells_cli.specs.Doing.{DoesLine, Tells}
+use Rattle.cells_cli.specs.Told.{answered_text}
 use Rattle.cells_cli.proofs.Doing.{answered, broken_off}
 use Rattle.cells_cli.proofs.Went.{went_line}
 use Rattle.cells_cli.proofs.up.do_line.Goals as goal

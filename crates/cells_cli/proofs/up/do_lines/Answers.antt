@@ -1,15 +1,11 @@
-use Rattle.std.proofs.Common.{◌≡◌, ◌+◌, ◌*◌, ◌<◌, ◌≤◌, ◌++◌, ◌∷◌, [], IsTrue, List, ℕ, Result, Ok, Err, refl, sym, ◌∙◌, ap, subst, arith, rules}
+use Rattle.std.proofs.Common.{◌≡◌, ◌+◌, ◌<◌, ◌++◌, ◌∷◌, List, ℕ, Ok, Err, refl, sym, ◌∙◌, ap, subst, arith, rules}
 use Rattle.std.proofs.lemmas.Result.{err_from_is_err_and}
-use Rattle.cells_script.specs.declared.limits.TheConstants.{LINE_BYTES}
 use Rattle.cells_world.specs.Cluster.{IsReady}
 use Rattle.cells_world.specs.World.{at as moment}
-use Rattle.cells_world.specs.declared.limits.TheConstants.{TAKES_A_LINE}
-use Rattle.cells_cli.specs.Doing.{Does, DoesText, EndsSo, HasItsCause, HasLineCause, SoFar, ended, stop_of}
+use Rattle.cells_cli.specs.Doing.{Does, DoesText, EndsSo, HasItsCause, HasLineCause, SoFar, ended}
 use Rattle.cells_cli.specs.ScriptLines.{script_lines_of}
 use Rattle.cells_cli.specs.Script.{line_refused, lines_done}
-use Rattle.cells_cli.specs.declared.lines.LineFault.TheVariants.{TooLong, TooMany}
 use Rattle.cells_cli.specs.declared.lines.TheConstants.{LINES}
-use Rattle.cells_cli.specs.declared.up.UpStop.{UpStop}
 use Rattle.cells_cli.proofs.Answered.{counted_is}
 use Rattle.cells_cli.proofs.Causes.{line_cause}
 use Rattle.cells_cli.proofs.Scripted.{so_far_start, so_far_ahead, so_far_more, ended_here, ended_all, ended_between, refuses_ahead, gives_next}

@@ -1,4 +1,4 @@
-use Rattle.std.proofs.Common.{◌≡◌, Err, refl, sym, ◌∙◌, ap, subst}
+use Rattle.std.proofs.Common.{Err, sym, ◌∙◌, ap, subst}
 use Rattle.std.proofs.lemmas.Result.{err_from_is_err_and}
 use Rattle.cells_world.specs.World.{at as moment}
 use Rattle.cells_cli.specs.Doing.{ended}

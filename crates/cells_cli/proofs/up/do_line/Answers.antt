@@ -30,11 +30,6 @@ pub returns-in-Err-clause-does : goal.returns-in-Err-clause-does
 returns-in-Err-clause-does g c =
     let before = moment c.args.cluster.now c.args.disk.now c.args.wire.now in
     let after = moment c.line.new.self c.line.new.disk c.line.new.wire in
-    let grows = c.in-Err.ensures.grows in
-    let notes : c.behind-in-Err.result.now ≡ grows.notes = c.behind-in-Err.ensures ∙ new_ones c.args.cluster.now.notes.items grows.notes c.line.new.self.notes.items c.notes-notes.result.now c.notes-in-Err.result.now c.notes-notes.ensures c.notes-in-Err.ensures grows.noted in
-    let steps : c.behind-in-Err-2.result.now ≡ grows.steps = c.behind-in-Err-2.ensures ∙ new_ones c.args.cluster.now.trace.items grows.steps c.line.new.self.trace.items c.trace-steps.result.now c.trace-in-Err.result.now c.trace-steps.ensures c.trace-in-Err.ensures grows.trace in
-    let told = subst (λ (ss : List Transition). Tells g.W.Sink (broken_off_text grows.notes ss) c.args.out.now c.tell_end-told.new.out c.tell_end-told.result) steps
-    (subst (λ (ns : List Note). Tells g.W.Sink (broken_off_text ns c.behind-in-Err-2.result.now) c.args.out.now c.tell_end-told.new.out c.tell_end-told.result) notes c.tell_end-told.ensures.told) in
     let off = broken_off g.W.Sink g.D.Disk g.N.Wire before after c.args.out.now c.tell_end-told.new.out g.met.D.Disk.only_now c.requires.ready
-    (record { number = c.args.number; line = c.args.line.now; notes = grows.notes; steps = grows.steps }) c.in-Err.error c.tell_end-told.result told in
+    (record { number = c.args.number; line = c.args.line.now; notes = c.behind-in-Err.result.now; steps = c.behind-in-Err-2.result.now }) c.in-Err.error c.tell_end-told.result c.tell_end-told.ensures.told in
     subst (λ r. DoesLine g.W.Sink g.D.Disk g.N.Wire c.args.number c.args.line.now before after c.args.out.now c.tell_end-told.new.out r) (sym c.stopped.ensures) off

@@ -1,15 +1,11 @@
 -- What a line does of itself: from the clauses of its calls to the world after its event.
-use Rattle.std.proofs.Common.{◌≡◌, ◌≢◌, ◌⊎◌, inl, inr, ⊎_elim, ℕ, ◌+◌, ◌<◌, ◌≤◌, Bool, true, false, cond, nat_lt, IsTrue, List, [], ◌∷◌, ◌++◌, length, Option, Some, None, refl, sym, ◌∙◌, ap, subst, append_assoc, arith}
-use Rattle.std.specs.Prelude.{map as list_map, IsSome}
-use Rattle.std.specs.List.{Contains, slice_get}
+use Rattle.std.proofs.Common.{◌≡◌, ◌≢◌, ◌⊎◌, inl, inr, ⊎_elim, ℕ, List, ◌++◌, Option, Some, None, refl, sym, ◌∙◌, ap, subst}
+use Rattle.std.specs.List.{Contains}
 use Rattle.std.specs.FinMap as map
 use Rattle.std.specs.FinMap.{nat_cmp-IsAntisymmetric}
 use Rattle.std.specs.Cmp.{nat_cmp_total}
-use Rattle.std.specs.Ordering.{nat_cmp}
 use Rattle.cells_base.proofs.Maps.{same_or_other, insert_same, insert_other}
-use Rattle.cells_base.proofs.Members.{at_place}
 use Rattle.claim_types.specs.declared.rule.Note.{Note}
-use Rattle.claim_map.specs.Registry.{Registry}
 use Rattle.claim_laws.specs.Acts.{with_agent}
 use Rattle.claim_laws.specs.Nodes.{Agent}
 use Rattle.claim_laws.specs.World.{Packet, World}

@@ -19,7 +19,7 @@ use Rattle.cell_store.specs.Store.{store}
 use Rattle.cell_store.specs.declared.store.CellStore.{CellStore}
 use Rattle.reconciler.specs.Agent.{IsReady as IsAgentReady}
 use Rattle.reconciler.specs.declared.agent.CellAgent.{CellAgent}
-use Rattle.cells_world.specs.Opening.{AreApart, AreNew, AreOf, AreOpened, IsCellEnd, IsIdle, IsOneEnd, ShowsOfCell, StandsStill, StaysBeside}
+use Rattle.cells_world.specs.Opening.{AreApart, AreNew, AreOpened, IsCellEnd, IsIdle, IsOneEnd, ShowsOfCell, StandsStill, StaysBeside}
 use Rattle.cells_world.specs.Serving.{IsServing}
 use Rattle.cells_world.specs.declared.fault.ClusterError.{ClusterError}
 use Rattle.cells_world.specs.declared.fault.ClusterError.TheVariants.{DiskFailed, Memory, Damaged}

@@ -1,6 +1,6 @@
 -- What a cell sends is within its bounds.
-use Rattle.std.proofs.Common.{◌≡◌, inl, inr, ℕ, ◌-◌, Bool, true, false, ◌&&◌, nat_eq, cond, List, [], ◌∷◌, length, Option, Some, None, refl, sym, subst}
-use Rattle.std.specs.List.{All, Contains, slice_get, flat_map}
+use Rattle.std.proofs.Common.{◌≡◌, inl, inr, ℕ, ◌-◌, Bool, true, false, ◌&&◌, nat_eq, cond, List, [], ◌∷◌, length, Option, Some, None, refl, subst}
+use Rattle.std.specs.List.{Contains, slice_get, flat_map}
 use Rattle.std.specs.FinMap as map
 use Rattle.std.proofs.lemmas.List.Elements.{Contains-append_cases}
 use Rattle.cells_base.proofs.Members.{nowhere, only, here, later, at_place}
@@ -14,7 +14,6 @@ use Rattle.claim_types.specs.declared.operations.Operations.{Operations}
 use Rattle.claim_types.specs.declared.page.LeasePage.{LeasePage}
 use Rattle.claim_types.specs.declared.rule.Attempt.{Attempt}
 use Rattle.claim_types.specs.declared.verdict.Denial.{Denial}
-use Rattle.claim_types.specs.declared.message.Request.{Request}
 use Rattle.claim_types.specs.declared.message.Request.TheVariants.{Commit, Rollback, List as ListRequest}
 use Rattle.claim_types.specs.declared.message.Reply.{Reply}
 use Rattle.claim_types.specs.declared.message.Reply.TheVariants.{Begun, Committed, RolledBack, Leases, Ranged, Claims, Classified, Page, NoCell}
@@ -23,7 +22,7 @@ use Rattle.claim_types.specs.declared.message.CommittedResult.TheVariants.{Good 
 use Rattle.claim_types.specs.declared.message.RangedResult.TheVariants.{Good as RangedGood, UnknownCell, TooFar, Exhausted}
 use Rattle.claim_map.specs.State.{Tree}
 use Rattle.claim_map.proofs.Found.{All-contained}
-use Rattle.claim_laws.specs.Nodes.{Agent, with_range, Heard, hears, hears_good, hears_denied, hears_committed, hears_page, passes_over, makes_change, gives_up, still_fits, requests_for, requests_for_listed, next_page, is_next}
+use Rattle.claim_laws.specs.Nodes.{Agent, with_range, hears, hears_good, hears_denied, hears_committed, hears_page, passes_over, makes_change, gives_up, still_fits, requests_for, requests_for_listed, next_page, is_next}
 use Rattle.cells_world.specs.Post.{AreRequests}
 
 module _ (cell : ℕ) (tree : Tree) (a : Agent) where

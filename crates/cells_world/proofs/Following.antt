@@ -1,5 +1,5 @@
 -- A line: its own event, and then packets that are handed over.
-use Rattle.std.proofs.Common.{◌≡◌, ℕ, IsTrue, List, [], ◌∷◌, ◌++◌, refl, sym, ◌∙◌, ap, subst}
+use Rattle.std.proofs.Common.{◌≡◌, ℕ, IsTrue, List, [], ◌++◌, refl, sym, ◌∙◌, subst}
 use Rattle.disk_journal.specs.declared.disk.Disk.{Ghosts}
 use Rattle.disk_journal.proofs.Moments.{OnlyNow, started}
 use Rattle.cells_edge.specs.declared.wire.Wire.{Ghosts as WireGhosts}
@@ -40,6 +40,8 @@ module _ {D N : Type 0} (g : Ghosts D) (n : WireGhosts N) (a c : At D N) (begun 
   follows =
       let registry = a.cluster.registry in
       let order_then = run-in_order registry start (λ cell id found. wide_of registry ready.configured cell id found) own w order in
-      let two = hands start (run registry own w) (subst (λ r. IsInOrder r start (run registry own w)) (sym same) order_then) (acts start w order is_in) in
-      (own ++ two.0, record { taken = two.0; all = refl; hand_over = two.1 },
-        goes_on g n registry w a (moment begun a.disk wire) c own two.0 first (subst (λ r. Goes g n r (run registry own w) (moment begun a.disk wire) c two.0) same two.2))
+      let two = hands start (run registry own w) (subst (λ r. IsInOrder r start (run registry own w)) (sym same) order_then) (acts start w order is_in) in (
+        own ++ two.0,
+        record { taken = two.0; all = refl; hand_over = two.1 },
+        goes_on g n registry w a (moment begun a.disk wire) c own two.0 first (subst (λ r. Goes g n r (run registry own w) (moment begun a.disk wire) c two.0) same two.2),
+      )

@@ -1,37 +1,26 @@
 -- What goes from moment to moment joins.
-use Rattle.std.proofs.Common.{◌≡◌, ◌≢◌, ◌⊎◌, inl, inr, ⊎_elim, ℕ, ◌+◌, ◌≤◌, IsTrue, List, [], ◌∷◌, ◌++◌, length, Option, Some, None, refl, sym, ◌∙◌, ap, subst, append_assoc, arith}
-use Rattle.std.specs.Prelude.{unwrap_or, IsSome}
+use Rattle.std.proofs.Common.{◌≡◌, ⊎_elim, ℕ, ◌+◌, IsTrue, List, [], ◌∷◌, ◌++◌, length, Option, Some, None, refl, sym, ◌∙◌, ap, subst, append_assoc, arith}
 use Rattle.std.specs.List.{AllByRecursion, Contains, slice_get}
-use Rattle.std.specs.FinMap as map
 use Rattle.disk_journal.specs.declared.disk.Disk.{Ghosts}
-use Rattle.disk_journal.specs.Disk.{Image, IsImage}
-use Rattle.disk_journal.specs.Entries.{Stands}
-use Rattle.disk_journal.proofs.Entries.{stands_in}
+use Rattle.disk_journal.specs.Disk.{Image}
 use Rattle.disk_journal.proofs.Moments.{OnlyNow, started, joins, weaker}
 use Rattle.cells_edge.specs.declared.wire.Packet.{Packet as WirePacket}
 use Rattle.cells_edge.specs.declared.wire.Wire.{Ghosts as WireGhosts}
 use Rattle.claim_map.proofs.Configured.{wide_of}
 use Rattle.claim_map.specs.Bounds.{AreCells}
 use Rattle.claim_map.specs.Legal.{Message}
-use Rattle.claim_map.specs.Registry.{Registry, cell_of}
-use Rattle.claim_map.specs.State.{ClaimMap}
+use Rattle.claim_map.specs.Registry.{Registry}
 use Rattle.claim_laws.specs.Acts.{after_message, after_packet, with_handed}
 use Rattle.claim_laws.specs.Events.{Event, hands, strays, happens, run}
 use Rattle.claim_laws.specs.Facts.{IsInOrder, WasSent}
-use Rattle.claim_laws.specs.Files.{service_of, store_at}
-use Rattle.claim_laws.specs.World.{Packet, World}
+use Rattle.claim_laws.specs.World.{World}
 use Rattle.claim_laws.proofs.Law.{run-in_order}
 use Rattle.claim_laws.proofs.Service.{hands_over}
-use Rattle.claim_service.specs.Node.{service, keeper}
 use Rattle.claim_service.specs.State.{kept}
-use Rattle.claim_service.specs.declared.limits.TheConstants.{SERVICE_FILE}
-use Rattle.cell_store.specs.Store.{store, stored, keeper as store_keeper}
-use Rattle.reconciler.specs.declared.agent.CellAgent.{CellAgent}
 use Rattle.cells_base.proofs.Members.{at_place}
 use Rattle.cells_world.specs.Cluster.{IsReady}
-use Rattle.cells_world.specs.Packets.{spelled}
 use Rattle.cells_world.specs.Post.{packets_of, IsSentAt, WasNotSent}
-use Rattle.cells_world.specs.World.{IsIn, IsOf, IsOfEither, IsReached, At, at as moment, AreGiven, IsHandOver, Goes, HandsOver, HandsAt, Leads}
+use Rattle.cells_world.specs.World.{IsIn, IsOf, IsOfEither, IsReached, At, at as moment, AreGiven, IsHandOver, Goes, HandsOver, HandsAt}
 use Rattle.cells_world.specs.declared.cluster.Cluster.{Cluster}
 use Rattle.cells_world.proofs.Served.{ready_is_of}
 
@@ -97,19 +86,27 @@ module _ {D N : Type 0} (g : Ghosts D) (n : WireGhosts N) where
 
   -- nothing was handed over
   pub hands_nothing : (a : At D N) → OnlyNow g → IsReady g a.disk a.cluster → HandsOver g n a a
-  hands_nothing a only_now ready start w order is_in = ([], tt, record {
-    now = is_in;
-    moments = λ tells. started g a.disk (IsReached a.cluster.registry w []) only_now (λ img is. reached_now a.cluster.registry w [] img (ready_is_of g a.disk a.cluster w ready tells is_in img is));
-    handed = λ tells. ([], append_nil (n.handed a.wire), refl);
-  })
+  hands_nothing a only_now ready start w order is_in = (
+    [],
+    tt,
+    record {
+      now = is_in;
+      moments = λ tells. started g a.disk (IsReached a.cluster.registry w []) only_now (λ img is. reached_now a.cluster.registry w [] img (ready_is_of g a.disk a.cluster w ready tells is_in img is));
+      handed = λ tells. ([], append_nil (n.handed a.wire), refl);
+    },
+  )
 
   -- a take gave nothing
   pub hands_none : (a : At D N) (wire : N) → OnlyNow g → IsReady g a.disk a.cluster → (IsTrue n.tells → n.handed wire ≡ n.handed a.wire) → HandsOver g n a (moment a.cluster a.disk wire)
-  hands_none a wire only_now ready same start w order is_in = ([], tt, record {
-    now = is_in;
-    moments = λ tells. started g a.disk (IsReached a.cluster.registry w []) only_now (λ img is. reached_now a.cluster.registry w [] img (ready_is_of g a.disk a.cluster w ready tells is_in img is));
-    handed = λ tells. ([], same tells ∙ append_nil (n.handed a.wire), refl);
-  })
+  hands_none a wire only_now ready same start w order is_in = (
+    [],
+    tt,
+    record {
+      now = is_in;
+      moments = λ tells. started g a.disk (IsReached a.cluster.registry w []) only_now (λ img is. reached_now a.cluster.registry w [] img (ready_is_of g a.disk a.cluster w ready tells is_in img is));
+      handed = λ tells. ([], same tells ∙ append_nil (n.handed a.wire), refl);
+    },
+  )
 
 length_push : {X : Type 0} (xs : List X) (y : X) → length (xs ++ y ∷ []) ≡ length xs + 1
 length_push [] y = refl
@@ -152,22 +149,29 @@ module _ {D N : Type 0} (g : Ghosts D) (n : WireGhosts N) (a : At D N) (b : Clus
       let then_order = hands_over registry start w (Some p.message) was_sent order in
       let leads = handing p (ap (λ ps. slice_get ps place) one.sent ∙ found.1) start (with_handed (Some p.message) w) (subst (λ r. IsInOrder r start (with_handed (Some p.message) w)) (sym one.registry) then_order) (counted_in a.cluster b w (Some p.message) is_in one) in
       let comes : happens registry w (hands place) ≡ after_message b.registry (place + 1) p.message (with_handed (Some p.message) w) =
-          ap (λ o. after_packet registry (place + 1) o w) in_place ∙ ap (λ r. after_message r (place + 1) p.message (with_handed (Some p.message) w)) (sym one.registry) in
-      (hands place ∷ [], (tt, tt), record {
-        now = subst (IsIn c.cluster) (sym comes) leads.now;
-        moments = weaker g a.disk c.disk (IsOfEither b.registry (with_handed (Some p.message) w) (after_message b.registry (place + 1) p.message (with_handed (Some p.message) w))) (IsReached registry w (hands place ∷ [])) leads.moments
-            (λ img either. ⊎_elim
-                (λ before. reached_now registry w (hands place ∷ []) img (counted_of registry img w (Some p.message) (subst (λ r. IsOf r img (with_handed (Some p.message) w)) one.registry before)))
-                (λ later. record { front = hands place ∷ []; rest = []; cut = refl; is_of = subst (IsOf registry img) (sym comes) (subst (λ r. IsOf r img (after_message b.registry (place + 1) p.message (with_handed (Some p.message) w))) one.registry later) })
-                either);
-        handed = λ tells. (given ∷ [], handed tells, (given ∷ [], [], refl, (p, in_place, ap (λ x. x ∷ []) (sym found.2)), refl));
-      })
+      ap (λ o. after_packet registry (place + 1) o w) in_place ∙ ap (λ r. after_message r (place + 1) p.message (with_handed (Some p.message) w)) (sym one.registry) in (
+        hands place ∷ [],
+        (tt, tt),
+        record {
+          now = subst (IsIn c.cluster) (sym comes) leads.now;
+          moments = weaker g a.disk c.disk (IsOfEither b.registry (with_handed (Some p.message) w) (after_message b.registry (place + 1) p.message (with_handed (Some p.message) w))) (IsReached registry w (hands place ∷ [])) leads.moments
+              (λ img either. ⊎_elim
+              (λ before. reached_now registry w (hands place ∷ []) img (counted_of registry img w (Some p.message) (subst (λ r. IsOf r img (with_handed (Some p.message) w)) one.registry before)))
+              (λ later. record { front = hands place ∷ []; rest = []; cut = refl; is_of = subst (IsOf registry img) (sym comes) (subst (λ r. IsOf r img (after_message b.registry (place + 1) p.message (with_handed (Some p.message) w))) one.registry later) })
+              either);
+          handed = λ tells. (given ∷ [], handed tells, (given ∷ [], [], refl, (p, in_place, ap (λ x. x ∷ []) (sym found.2)), refl));
+        },
+      )
 
   -- one that nobody here sent is dropped
   pub hands_stray : (wire : N) → OnlyNow g → IsReady g a.disk a.cluster → WasNotSent a.cluster.post given → (IsTrue n.tells → n.handed wire ≡ n.handed a.wire ++ given ∷ []) → HandsOver g n a (moment b a.disk wire)
   unfolding happens
-  hands_stray wire only_now ready missing handed start w order is_in = (strays ∷ [], (tt, tt), record {
-    now = counted_in a.cluster b w None is_in one;
-    moments = λ tells. started g a.disk (IsReached a.cluster.registry w (strays ∷ [])) only_now (λ img is. reached_now a.cluster.registry w (strays ∷ []) img (ready_is_of g a.disk a.cluster w ready tells is_in img is));
-    handed = λ tells. (given ∷ [], handed tells, (given ∷ [], [], refl, (given, refl, λ k p there is. missing k p (ap (λ ps. slice_get ps k) (sym is_in.sent) ∙ there) is), refl));
-  })
+  hands_stray wire only_now ready missing handed start w order is_in = (
+    strays ∷ [],
+    (tt, tt),
+    record {
+      now = counted_in a.cluster b w None is_in one;
+      moments = λ tells. started g a.disk (IsReached a.cluster.registry w (strays ∷ [])) only_now (λ img is. reached_now a.cluster.registry w (strays ∷ []) img (ready_is_of g a.disk a.cluster w ready tells is_in img is));
+      handed = λ tells. (given ∷ [], handed tells, (given ∷ [], [], refl, (given, refl, λ k p there is. missing k p (ap (λ ps. slice_get ps k) (sym is_in.sent) ∙ there) is), refl));
+    },
+  )

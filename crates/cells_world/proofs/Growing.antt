@@ -1,5 +1,5 @@
 -- What was traced and noted goes on.
-use Rattle.std.proofs.Common.{◌≡◌, ℕ, List, [], ◌∷◌, ◌++◌, Option, Some, None, refl, sym, ◌∙◌, ap, append_assoc}
+use Rattle.std.proofs.Common.{◌≡◌, ℕ, List, [], ◌++◌, Option, Some, None, refl, ◌∙◌, ap, append_assoc}
 use Rattle.claim_types.specs.declared.rule.Ended.{Ended}
 use Rattle.claim_types.specs.declared.rule.Ended.TheVariants.{Denied as EndedDenied, Changed as EndedChanged}
 use Rattle.claim_types.specs.declared.rule.Note.{Note}

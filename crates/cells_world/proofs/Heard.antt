@@ -1,7 +1,7 @@
 -- A reply that is handed to a cell: from the clauses of its agent's call to the world after it.
-use Rattle.std.proofs.Common.{◌≡◌, ◌≢◌, ◌⊎◌, inl, inr, ⊎_elim, ℕ, ◌+◌, ◌<◌, ◌≤◌, IsTrue, List, [], ◌∷◌, ◌++◌, length, Option, Some, None, refl, sym, ◌∙◌, ap, subst, arith}
-use Rattle.std.specs.Prelude.{map as list_map, unwrap_or, IsSome}
-use Rattle.std.specs.List.{Contains, slice_get}
+use Rattle.std.proofs.Common.{◌≡◌, ◌≢◌, ◌⊎◌, inl, inr, ⊎_elim, ℕ, ◌≤◌, IsTrue, List, [], ◌∷◌, ◌++◌, length, Option, Some, None, refl, sym, ◌∙◌, ap, subst, arith}
+use Rattle.std.specs.Prelude.{map as list_map, unwrap_or}
+use Rattle.std.specs.List.{Contains}
 use Rattle.std.specs.FinMap as map
 use Rattle.std.specs.FinMap.{nat_cmp-IsAntisymmetric}
 use Rattle.std.specs.Cmp.{nat_cmp_total}
@@ -11,28 +11,20 @@ use Rattle.cells_base.proofs.Counts.{not_empty}
 use Rattle.claim_types.proofs.Ordered.{leases_total}
 use Rattle.claim_types.specs.declared.cell.Range.{Range}
 use Rattle.claim_types.specs.declared.entry.CellEntry.{CellEntry}
-use Rattle.claim_types.specs.declared.lease.LeaseId.{LeaseId}
-use Rattle.claim_types.specs.declared.record.Change.{Change}
-use Rattle.claim_types.specs.declared.rule.Attempt.{Attempt}
 use Rattle.claim_types.specs.declared.rule.Ended.{Ended}
 use Rattle.claim_types.specs.declared.rule.Ended.TheVariants.{Denied as EndedDenied, Changed as EndedChanged}
-use Rattle.claim_types.specs.declared.step.Step.{Step}
-use Rattle.claim_types.specs.declared.step.Step.TheVariants.{Recorded}
-use Rattle.claim_types.specs.declared.step.Transition.{Transition}
-use Rattle.claim_types.specs.declared.rule.Note.{Note}
 use Rattle.claim_types.specs.declared.message.Reply.{Reply}
-use Rattle.claim_map.specs.Legal.{Message, ask, answer}
-use Rattle.claim_map.specs.Registry.{Registry, cell_of}
+use Rattle.claim_map.specs.Legal.{answer}
+use Rattle.claim_map.specs.Registry.{Registry}
 use Rattle.claim_map.specs.State.{ClaimMap, Tree, empty_tree, tree_of, ranges_of}
 use Rattle.claim_map.specs.Records.{changed_by}
-use Rattle.claim_map.specs.Rules.{rule_of}
 use Rattle.claim_map.specs.Step.{after_any}
 use Rattle.claim_map.proofs.Stable.{stays}
-use Rattle.claim_laws.specs.Acts.{after_heard, after_message, after_reply, packet_of, receiver, with_agent, with_note, with_sent, with_step}
+use Rattle.claim_laws.specs.Acts.{after_heard, after_message, after_reply, packet_of, receiver, with_agent, with_note, with_step}
 use Rattle.claim_laws.specs.Facts.{IsInOrder}
-use Rattle.claim_laws.specs.Files.{Store, service_of, store_of, store_at, store_in, store_turn, fold_turns, empty_store, and_then}
+use Rattle.claim_laws.specs.Files.{service_of, store_of, store_at, store_in, store_turn, empty_store, and_then}
 use Rattle.claim_laws.specs.Nodes.{Agent, Heard, KeepsInOrder, hears}
-use Rattle.claim_laws.specs.World.{Packet, World, idle_agent, agent_of}
+use Rattle.claim_laws.specs.World.{World, idle_agent, agent_of}
 use Rattle.claim_laws.proofs.HeardStep.{Leaves, Records, heard_step}
 use Rattle.claim_laws.proofs.Moved.{cell_fine, keeps_in_order, steps_claims, steps_agents}
 use Rattle.claim_laws.proofs.Turns.{folded_push, heard_turn}
@@ -89,7 +81,6 @@ module _ {D N : Type 0} (g : Ghosts D) (old new : Cluster) (d e : D) (m n : N) (
     (notes : new.notes.items ≡ noted_by (heard_by k reply).ended old.notes.items)
     (takes : new.takes ≡ old.takes)
     (start : ClaimMap) (w : World) (order : IsInOrder old.registry start w) (is_in : IsIn old w) where
-
   abbrev registry : Registry
   registry = old.registry
 
@@ -142,14 +133,15 @@ module _ {D N : Type 0} (g : Ghosts D) (old new : Cluster) (d e : D) (m n : N) (
         here = ap (λ s. tree_of (after_any w.claims s) cell) is.step ∙ cell_is.tree ∙ sym is.same;
         there = λ q apart. ap (λ s. tree_of (after_any w.claims s) q) is.step;
       }
+
       records_so : Records cell (stored k.store).tree (kept_by k) h → Moves
       records_so is =
           let new_tree : Tree = changed_by (tree_of w.claims is.lease.cell) is.change (ranges_of w.claims.ranges is.lease.cell) in
           let changed : changed_by (stored k.store).tree is.change ((kept_by k).known ++ more.0) ≡ changed_by (stored k.store).tree is.change (kept_by k).known = (stays (stored k.store).tree is.change (kept_by k).known more.0 is.no_rule).changed in
           let same_tree : new_tree ≡ h.tree =
-              ap (λ c. changed_by (tree_of w.claims c) is.change (ranges_of w.claims.ranges c)) is.here
-              ∙ ap (λ t. changed_by t is.change (ranges_of w.claims.ranges cell)) cell_is.tree
-              ∙ ap (changed_by (stored k.store).tree is.change) more.1 ∙ changed ∙ sym is.changed in
+          ap (λ c. changed_by (tree_of w.claims c) is.change (ranges_of w.claims.ranges c)) is.here
+          ∙ ap (λ t. changed_by t is.change (ranges_of w.claims.ranges cell)) cell_is.tree
+          ∙ ap (changed_by (stored k.store).tree is.change) more.1 ∙ changed ∙ sym is.changed in
           record {
             service = ap (λ s. service_of (after_any w.claims s)) is.step;
             here = ap (λ s. tree_of (after_any w.claims s) cell) is.step

@@ -1,7 +1,6 @@
 -- Why a file was not opened, also where it was tried once more.
-use Rattle.std.proofs.Common.{◌≡◌, ℕ, ◌≤◌, IsTrue, refl, arith}
+use Rattle.std.proofs.Common.{◌≡◌, ℕ, IsTrue, refl, arith}
 use Rattle.std.specs.Prelude.{Err}
-use Rattle.cells_base.specs.Causes.{Rose}
 use Rattle.disk_journal.specs.declared.disk.Disk.{Ghosts}
 use Rattle.disk_journal.specs.Effects.{FailedAt}
 use Rattle.disk_journal.specs.Entries.{TouchesOnly}

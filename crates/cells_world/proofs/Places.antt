@@ -1,13 +1,12 @@
 -- One agent of a list is put in its place.
-use Rattle.std.proofs.Common.{◌≡◌, ◌≢◌, ◌⊎◌, inl, inr, ⊎_elim, ℕ, zero, suc, ◌+◌, ◌<◌, List, [], ◌∷◌, length, get_or, set, Option, Some, None, refl, sym, ◌∙◌, ap, subst, arith}
-use Rattle.std.specs.Prelude.{IsSome}
+use Rattle.std.proofs.Common.{◌≡◌, ◌≢◌, ◌⊎◌, inl, inr, ⊎_elim, ℕ, zero, suc, List, [], ◌∷◌, set, Some, refl, sym, ◌∙◌, ap}
 use Rattle.std.specs.List.{Contains, slice_get}
 use Rattle.std.specs.FinMap.{nat_cmp-IsAntisymmetric}
 use Rattle.std.specs.Cmp.{nat_cmp_total}
-use Rattle.std.proofs.lemmas.Option.{slice_get_within, slice_get-get_or}
+use Rattle.std.proofs.lemmas.Option.{slice_get-get_or}
 use Rattle.cells_base.proofs.Maps.{same_or_other}
 use Rattle.cells_base.proofs.Members.{at_place}
-use Rattle.claim_map.specs.Registry.{Registry, cell_of}
+use Rattle.claim_map.specs.Registry.{Registry}
 use Rattle.reconciler.specs.declared.agent.CellAgent.{CellAgent}
 use Rattle.cells_world.specs.Cluster.{AreAgentsOf, PutsOne}
 
@@ -56,14 +55,15 @@ module _ (registry : Registry) (cells : List CellAgent) (n : ℕ) (k now : CellA
   agents_set = record {
     there = λ id known. (let was = agents.there id known in
         ⊎_elim
-            (λ (e : was.0.store.cell ≡ now.store.cell). (now, puts_set.put, sym e ∙ was.2))
-            (λ apart. (was.0, puts_set.others was.0 was.1 apart, was.2))
-            (same_or_other nat_cmp_total nat_cmp-IsAntisymmetric was.0.store.cell now.store.cell));
+        (λ (e : was.0.store.cell ≡ now.store.cell). (now, puts_set.put, sym e ∙ was.2))
+        (λ apart. (was.0, puts_set.others was.0 was.1 apart, was.2))
+        (same_or_other nat_cmp_total nat_cmp-IsAntisymmetric was.0.store.cell now.store.cell));
     apart = λ i j a b at_i at_j clash. places i j a b clash (which i a at_i) (which j b at_j);
   }
     where
       cell_of_now : (a : CellAgent) → a ≡ now → a.store.cell ≡ k.store.cell
       cell_of_now a is = ap (λ (x : CellAgent). x.store.cell) is ∙ same
+
       places : (i j : ℕ) (a b : CellAgent) → a.store.cell ≡ b.store.cell → ((i ≡ n) × (a ≡ now)) ⊎ ((i ≢ n) × (slice_get cells i ≡ Some a)) → ((j ≡ n) × (b ≡ now)) ⊎ ((j ≢ n) × (slice_get cells j ≡ Some b)) → i ≡ j
       places i j a b clash (inl x) (inl y) = x.0 ∙ sym y.0
       places i j a b clash (inl x) (inr y) = absurd (y.0 (agents.apart j n b k y.1 here (sym clash ∙ cell_of_now a x.1)))

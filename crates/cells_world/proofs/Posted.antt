@@ -1,5 +1,5 @@
 -- A packet is found by its tag.
-use Rattle.std.proofs.Common.{◌≡◌, ◌≢◌, ◌⊎◌, inl, inr, ℕ, zero, suc, ◌+◌, ◌<◌, List, [], ◌∷◌, ◌++◌, length, Option, Some, None, refl, sym, ◌∙◌, ap, subst, arith}
+use Rattle.std.proofs.Common.{◌≡◌, ◌≢◌, ◌⊎◌, inl, inr, ℕ, zero, suc, ◌+◌, ◌<◌, List, [], ◌∷◌, ◌++◌, length, Some, refl, sym, ◌∙◌, ap, subst, arith}
 use Rattle.std.specs.Prelude.{map as list_map, Result, Ok, Err, OnOk}
 use Rattle.cells_base.specs.declared.memory.NoMemory.{NoMemory}
 use Rattle.std.specs.List.{slice_get}
@@ -7,7 +7,6 @@ use Rattle.std.specs.declared.vec.Vec.{Vec}
 use Rattle.std.proofs.lemmas.Option.{slice_get_within}
 use Rattle.cells_edge.specs.declared.wire.Packet.{Packet as WirePacket}
 use Rattle.cells_edge.specs.declared.wire.Wire.{Ghosts}
-use Rattle.claim_laws.specs.World.{Packet}
 use Rattle.cells_world.specs.Packets.{spelled}
 use Rattle.cells_world.specs.Post.{packet_of, packets_of, ArePackets, IsSent, IsSentAt, WasNotSent, Puts, RepeatsAt}
 use Rattle.cells_world.specs.declared.post.Post.{Post}
@@ -60,8 +59,11 @@ sent_within post k given is =
 pub repeats : {N : Type 0} (n : Ghosts N) (wire_old wire_new : N) (post : Post) (k : ℕ) (s : Sent) (bytes : List ℕ) → ArePackets post → slice_get post.sent.items k ≡ Some s → bytes ≡ s.bytes →
     (r : Result (Unit {0}) NoMemory) → OnOk r (Puts n wire_old wire_new post (record { leg = s.leg; bytes = bytes } ∷ [])) → OnOk r (RepeatsAt n wire_old wire_new post k)
 repeats n wire_old wire_new post k s bytes are here same (Err e) put = tt
-repeats n wire_old wire_new post k s bytes are here same (Ok x) put = (packet_of s, mapped packet_of post.sent.items k s here,
-    subst (λ (q : WirePacket). Puts n wire_old wire_new post (q ∷ [])) (are k s here).spelled (subst (λ b. Puts n wire_old wire_new post (record { leg = s.leg; bytes = b } ∷ [])) same put))
+repeats n wire_old wire_new post k s bytes are here same (Ok x) put = (
+  packet_of s,
+  mapped packet_of post.sent.items k s here,
+  subst (λ (q : WirePacket). Puts n wire_old wire_new post (q ∷ [])) (are k s here).spelled (subst (λ b. Puts n wire_old wire_new post (record { leg = s.leg; bytes = b } ∷ [])) same put),
+)
 
 -- the elements of what was sent
 abbrev pub items_of : {Z : Type 0} → Vec Sent Z → List Sent

@@ -1,12 +1,10 @@
 -- Every node stays ready, whichever node's call was made.
-use Rattle.std.proofs.Common.{◌≡◌, ◌≢◌, ◌⊎◌, inl, inr, ⊎_elim, ℕ, ◌≤◌, IsTrue, List, Option, Some, None, refl, sym, ◌∙◌, ap, subst, arith}
-use Rattle.std.specs.Prelude.{IsSome}
-use Rattle.std.specs.List.{Contains, slice_get}
+use Rattle.std.proofs.Common.{◌≡◌, ◌≢◌, ⊎_elim, ℕ, ◌≤◌, sym, ◌∙◌, ap, subst, arith}
+use Rattle.std.specs.List.{Contains}
 use Rattle.disk_journal.specs.declared.disk.Disk.{Ghosts}
 use Rattle.disk_journal.specs.Entries.{TouchesOnly}
-use Rattle.disk_journal.specs.Journal.{IsOwn}
 use Rattle.disk_journal.proofs.Entries.{rests_on}
-use Rattle.claim_map.specs.Registry.{Registry, cell_of}
+use Rattle.claim_map.specs.Registry.{Registry}
 use Rattle.claim_service.specs.Node.{service, keeper}
 use Rattle.claim_service.specs.declared.limits.TheConstants.{SERVICE_FILE}
 use Rattle.cell_store.specs.Store.{store, keeper as store_keeper}

@@ -1,7 +1,7 @@
 -- A request that is handed to the service: from the clauses of its node's call to the world after it.
-use Rattle.std.proofs.Common.{◌≡◌, ◌≢◌, ◌⊎◌, inl, inr, ⊎_elim, ℕ, ◌+◌, ◌≤◌, true, IsTrue, List, [], ◌∷◌, ◌++◌, length, Option, Some, None, refl, sym, ◌∙◌, ap, subst, arith}
-use Rattle.std.specs.Prelude.{map as list_map, unwrap_or, IsSome}
-use Rattle.std.specs.List.{Contains, slice_get}
+use Rattle.std.proofs.Common.{◌≡◌, inl, inr, ⊎_elim, ℕ, ◌+◌, true, IsTrue, List, [], ◌∷◌, ◌++◌, length, Option, Some, None, refl, sym, ◌∙◌, ap, subst, arith}
+use Rattle.std.specs.Prelude.{unwrap_or, IsSome}
+use Rattle.std.specs.List.{Contains}
 use Rattle.std.specs.FinMap as map
 use Rattle.std.specs.Ordering.{nat_cmp}
 use Rattle.claim_types.specs.declared.cell.Range.{Range}
@@ -13,24 +13,22 @@ use Rattle.claim_types.specs.declared.message.Request.{Request}
 use Rattle.claim_types.specs.declared.message.Request.TheVariants.{Begin, Commit, Rollback, List as ListRequest, Range as RangeRequest, Claims as ClaimsRequest, Classify, Page}
 use Rattle.claim_map.specs.Due.{Due, due}
 use Rattle.claim_map.specs.Entries.{entry_of}
-use Rattle.claim_map.specs.Legal.{Message, ask, answer}
+use Rattle.claim_map.specs.Legal.{answer}
 use Rattle.claim_map.specs.Ranges.{range_verdict, fresh, follows}
 use Rattle.claim_map.specs.Registry.{Registry, cell_of}
 use Rattle.claim_map.specs.State.{ClaimMap, Tree, empty_tree, tree_of}
 use Rattle.claim_map.specs.Step.{after_any}
 use Rattle.claim_map.proofs.Configured.{wide_of}
-use Rattle.claim_laws.specs.Acts.{after_due, after_message, with_sent, with_step}
+use Rattle.claim_laws.specs.Acts.{after_due, with_step}
 use Rattle.claim_laws.specs.Facts.{IsInOrder}
-use Rattle.claim_laws.specs.Files.{Service, service_of, map_of, store_of, store_at, service_in}
-use Rattle.claim_laws.specs.World.{Packet, World, idle_agent, agent_of}
+use Rattle.claim_laws.specs.Files.{service_of, map_of, store_of, store_at}
+use Rattle.claim_laws.specs.World.{World, idle_agent, agent_of}
 use Rattle.claim_laws.proofs.Moved.{due_trees, fresh_follows, steps_claims, steps_agents}
 use Rattle.claim_laws.proofs.Turns.{service_goes_on}
 use Rattle.disk_journal.specs.declared.disk.Disk.{Ghosts}
 use Rattle.disk_journal.specs.Disk.{Image, IsImage}
-use Rattle.disk_journal.specs.Effects.{AreApart}
-use Rattle.disk_journal.specs.Entries.{HasEntries, Stands, Rests, HasTheseOr, AppendsAtMost, TouchesOnly}
+use Rattle.disk_journal.specs.Entries.{HasEntries, Stands, Rests, HasTheseOr, AppendsAtMost}
 use Rattle.disk_journal.specs.Journal.{IsOwn}
-use Rattle.disk_journal.specs.Moments.{LeavesOnly}
 use Rattle.disk_journal.proofs.Entries.{stands_in}
 use Rattle.disk_journal.proofs.Moments.{weaker}
 use Rattle.cells_base.specs.Lists.{with_entry}
@@ -38,11 +36,10 @@ use Rattle.claim_service.specs.Node.{service, keeper}
 use Rattle.claim_service.specs.State.{kept, kept_after, owed}
 use Rattle.claim_service.specs.declared.limits.TheConstants.{SERVICE_FILE}
 use Rattle.cell_store.specs.Store.{store, stored, keeper as store_keeper}
-use Rattle.reconciler.specs.Agent.{kept_by}
 use Rattle.reconciler.specs.declared.agent.CellAgent.{CellAgent}
 use Rattle.cells_world.specs.Cluster.{IsReady, traced_by}
 use Rattle.cells_world.specs.Post.{packets_of}
-use Rattle.cells_world.specs.World.{IsIn, IsCellIn, IsOf, IsOfEither, At, at as moment, Leads, HandsAt}
+use Rattle.cells_world.specs.World.{IsIn, IsCellIn, IsOf, IsOfEither, at as moment, Leads}
 use Rattle.cells_world.specs.declared.cluster.Cluster.{Cluster}
 
 same_due : (registry : Registry) (s : ClaimMap) (request : Request) → due registry (map_of (service_of s)) request ≡ due registry s request
@@ -109,7 +106,6 @@ module _ {D N : Type 0} (g : Ghosts D) (old new : Cluster) (d e : D) (m n : N) (
     (notes : new.notes.items ≡ old.notes.items)
     (takes : new.takes ≡ old.takes)
     (start : ClaimMap) (w : World) (order : IsInOrder old.registry start w) (is_in : IsIn old w) where
-
   abbrev registry : Registry
   registry = old.registry
 

@@ -1,5 +1,5 @@
 -- The step that is told from a reply is the one that was due.
-use Rattle.std.proofs.Common.{◌≡◌, ◌≤◌, ℕ, Bool, true, false, cond, Option, Some, None, is_some, refl, sym, ◌∙◌, ap}
+use Rattle.std.proofs.Common.{◌≡◌, ℕ, Bool, true, false, cond, Option, Some, None, is_some, refl, sym, ap}
 use Rattle.std.specs.FinMap as map
 use Rattle.claim_types.specs.MessageBounds.{IsRequest}
 use Rattle.claim_types.specs.declared.cell.Range.{Range}
@@ -7,14 +7,13 @@ use Rattle.claim_types.specs.declared.lease.How.{How}
 use Rattle.claim_types.specs.declared.lease.How.TheVariants.{Committed as AsCommitted, RolledBack as AsRolledBack}
 use Rattle.claim_types.specs.declared.lease.LeaseId.{LeaseId}
 use Rattle.claim_types.specs.declared.operations.Operations.{Operations}
-use Rattle.claim_types.specs.declared.question.Question.{Question}
 use Rattle.claim_types.specs.declared.step.Step.{Step}
 use Rattle.claim_types.specs.declared.step.Step.TheVariants.{Leased, Committed, RolledBack, Ranged}
 use Rattle.claim_types.specs.declared.verdict.Verdict.{Verdict}
 use Rattle.claim_types.specs.declared.verdict.Verdict.TheVariants.{Fresh, Again, Refused}
 use Rattle.claim_types.specs.declared.message.Request.{Request}
 use Rattle.claim_types.specs.declared.message.Request.TheVariants.{Begin, Commit, Rollback, List as ListRequest, Range as RangeRequest, Claims as ClaimsRequest, Classify, Page}
-use Rattle.claim_map.specs.Due.{Due, due, begin_due, commit_due, rollback_due, range_due, of_cell}
+use Rattle.claim_map.specs.Due.{Due, due, begin_due, commit_due, rollback_due, range_due}
 use Rattle.claim_map.specs.Entries.{entry_of}
 use Rattle.claim_map.specs.Ranges.{RangeVerdict, unknown_cell, kept, too_far, exhausted, fresh, range_verdict, AreRanges}
 use Rattle.claim_map.specs.Registry.{Registry, cell_of}

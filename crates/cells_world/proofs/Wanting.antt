@@ -1,18 +1,18 @@
 -- A cell asks for a range, or for a change: from the clauses of the calls to the world after the event of the line.
-use Rattle.std.proofs.Common.{◌≡◌, ◌≢◌, ◌⊎◌, inl, inr, ⊎_elim, ℕ, ◌+◌, ◌<◌, ◌≤◌, Bool, true, false, cond, nat_lt, IsTrue, List, [], ◌∷◌, ◌++◌, length, Option, Some, None, refl, sym, ◌∙◌, ap, subst, arith}
-use Rattle.std.specs.Prelude.{map as list_map, IsSome, IfSome, Result, Ok, Err}
+use Rattle.std.proofs.Common.{◌≡◌, ◌≢◌, ⊎_elim, ℕ, ◌+◌, ◌<◌, ◌≤◌, true, cond, List, [], ◌∷◌, ◌++◌, length, Option, Some, None, refl, sym, ◌∙◌, ap, subst, arith}
+use Rattle.std.specs.Prelude.{IfSome, Result, Ok, Err}
 use Rattle.std.specs.List.{Contains, slice_get}
 use Rattle.std.specs.FinMap as map
 use Rattle.std.proofs.lemmas.Bool.{lt-ltb, le-ltb}
 use Rattle.cells_base.proofs.Members.{here, later}
 use Rattle.cells_base.specs.Options.{◌or_else◌}
 use Rattle.cells_base.proofs.Options.{both_none}
-use Rattle.claim_types.specs.Bounds.{IsCell, IsRange, IsRangeNumber}
+use Rattle.claim_types.specs.Bounds.{IsRange, IsRangeNumber}
 use Rattle.claim_types.specs.MessageBounds.{IsRequest}
 use Rattle.claim_types.specs.declared.cell.Range.{Range}
 use Rattle.claim_types.specs.declared.limits.TheConstants.{GREATEST_ATTEMPT, GREATEST_IDENTIFIER}
 use Rattle.claim_types.specs.declared.message.Request.{Request}
-use Rattle.claim_types.specs.declared.message.Request.TheVariants.{Begin, Range as RangeRequest}
+use Rattle.claim_types.specs.declared.message.Request.TheVariants.{Begin}
 use Rattle.claim_types.specs.declared.record.Change.{Change}
 use Rattle.claim_types.specs.declared.rule.Rule.{Rule}
 use Rattle.claim_types.specs.declared.rule.Rule.TheVariants.{NoSuchRecord, WrongKind, BadName, Same, TakenHere, HasChildren, TooMany, NoIds, VersionSpent, TooManyRows, Memory as RuleMemory}
@@ -26,7 +26,7 @@ use Rattle.claim_map.proofs.Within.{operation_bounds}
 use Rattle.claim_laws.specs.Acts.{packet_of, anybody_may_send, with_agent, with_asked, with_sent, after_ask}
 use Rattle.claim_laws.specs.Events.{asks, requests, happens, run}
 use Rattle.claim_laws.specs.Nodes.{Agent, Asked, ask_range, ask_change, asked_unless, attempt_of, next_lease, too_many_rows, with_attempt}
-use Rattle.claim_laws.specs.World.{Packet, World}
+use Rattle.claim_laws.specs.World.{World}
 use Rattle.claim_laws.proofs.Cells.{next_bounds}
 use Rattle.cell_store.specs.Store.{stored, IsStore}
 use Rattle.reconciler.specs.Agent.{kept_by, IsAgent, Answers, begin_of, agent_after}
@@ -76,7 +76,7 @@ range_in old new w registry k cell number is_in inside of_cell is same sent =
     let a = kept_by k in
     let at : map.get w.agents cell ≡ Some a = ap (map.get w.agents) (sym of_cell) ∙ (is_in.cells k inside).agent in
     let grown = sent_in old new w (packet_of (ask_range cell a number) ∷ []) is_in same.service same.cells
-        (sent ∙ ap (λ q. packets_of old.post ++ packet_of (ask_range q a number) ∷ []) of_cell) (ap (λ t. t.items) same.trace) (ap (λ t. t.items) same.notes) same.takes in
+    (sent ∙ ap (λ q. packets_of old.post ++ packet_of (ask_range q a number) ∷ []) of_cell) (ap (λ t. t.items) same.trace) (ap (λ t. t.items) same.notes) same.takes in
     subst (λ o. IsIn new (run registry (asks_range cell number o) w)) (sym at)
     (subst (IsIn new) (sym (range_sent registry w cell a number is)) grown)
 
@@ -178,17 +178,17 @@ module _ (old : Cluster) (w : World) (registry : Registry) (k : CellAgent) (chan
     service = is_in.service ∙ ap (λ (s : Rattle.claim_service.specs.declared.node.TopologyNode.TopologyNode). Rattle.claim_service.specs.State.kept s.state) (sym service);
     cells = λ b there. ⊎_elim
         (λ (is : b ≡ after). (let was = is_in.cells k inside in
-            subst (IsCellIn w) (sym is) (record {
-              tree = ap (λ (s : Rattle.cell_store.specs.declared.store.CellStore.CellStore). tree_of w.claims s.cell) store ∙ was.tree ∙ ap (λ s. (stored s).tree) (sym store);
-              agent = ap (λ (s : Rattle.cell_store.specs.declared.store.CellStore.CellStore). map.get w.agents s.cell) store ∙ was.agent ∙ ap Some (sym kept);
-            })))
+        subst (IsCellIn w) (sym is) (record {
+          tree = ap (λ (s : Rattle.cell_store.specs.declared.store.CellStore.CellStore). tree_of w.claims s.cell) store ∙ was.tree ∙ ap (λ s. (stored s).tree) (sym store);
+          agent = ap (λ (s : Rattle.cell_store.specs.declared.store.CellStore.CellStore). map.get w.agents s.cell) store ∙ was.agent ∙ ap Some (sym kept);
+        })))
         (λ other. is_in.cells b other.0)
         (puts.each b there);
     only = λ q x there. (let was = is_in.only q x there in
         ⊎_elim
-            (λ (same : was.0.store.cell ≡ after.store.cell). (after, puts.put, sym same ∙ was.2))
-            (λ apart. (was.0, puts.others was.0 was.1 apart, was.2))
-            (Rattle.cells_base.proofs.Maps.same_or_other Rattle.std.specs.Cmp.nat_cmp_total Rattle.std.specs.FinMap.nat_cmp-IsAntisymmetric was.0.store.cell after.store.cell));
+        (λ (same : was.0.store.cell ≡ after.store.cell). (after, puts.put, sym same ∙ was.2))
+        (λ apart. (was.0, puts.others was.0 was.1 apart, was.2))
+        (Rattle.cells_base.proofs.Maps.same_or_other Rattle.std.specs.Cmp.nat_cmp_total Rattle.std.specs.FinMap.nat_cmp-IsAntisymmetric was.0.store.cell after.store.cell));
     sent = is_in.sent ∙ sym sent;
     trace = is_in.trace ∙ sym trace;
     notes = is_in.notes ∙ sym notes;
@@ -237,6 +237,7 @@ spent_in c w registry k line cell now of same is_in inside spent =
   where
     at : map.get w.agents cell ≡ Some (kept_by k)
     at = ap (map.get w.agents) (sym same) ∙ (is_in.cells k inside).agent
+
     go : (o : Option Change) → IsIn c (run registry (asks_for cell now o) w)
     go None = is_in
     go (Some change) = subst (λ o. IsIn c (after_ask cell o change now w)) (sym at)

@@ -1,5 +1,5 @@
 -- What each call on a cluster needs, and leaves where it is answered.
-use Rattle.std.specs.Prelude.{◌≡◌, ◌≢◌, ◌⊎◌, ℕ, List, ◌++◌, [], ◌∷◌, map as list_map, Option, Some, None, IsSome, Result, Ok, Err}
+use Rattle.std.specs.Prelude.{◌≡◌, ◌≢◌, ◌⊎◌, ℕ, List, ◌++◌, [], ◌∷◌, Option, Some, None, IsSome, Result, Ok, Err}
 use Rattle.std.specs.List.{Contains, slice_get}
 use Rattle.disk_journal.specs.declared.disk.Disk.{Ghosts}
 use Rattle.claim_types.specs.declared.rule.Ended.{Ended}

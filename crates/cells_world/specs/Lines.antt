@@ -1,5 +1,5 @@
 -- What the lines of a script bring about: the event of a line, and then packets that are handed over.
-use Rattle.std.specs.Prelude.{◌≡◌, ◌≤◌, ◌<◌, ◌⊎◌, ℕ, ◌+◌, IsTrue, IsSome, List, [], ◌∷◌, ◌++◌, length, min, Option, Some, None}
+use Rattle.std.specs.Prelude.{◌≡◌, ◌<◌, ℕ, ◌+◌, IsSome, List, [], ◌∷◌, ◌++◌, min, Option, Some, None}
 use Rattle.std.specs.List.{AllByRecursion, Contains}
 use Rattle.std.specs.FinMap as map
 use Rattle.disk_journal.specs.declared.disk.Disk.{Ghosts}

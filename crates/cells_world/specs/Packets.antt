@@ -1,12 +1,11 @@
 -- Messages as they go over a wire, and which of them get so far.
-use Rattle.std.specs.Prelude.{◌≡◌, ℕ, ◌+◌, ◌-◌, Bool, nat_eq, nat_lt, if◌then◌else◌, List, [], ◌∷◌, ◌++◌, length, map as list_map, filter}
-use Rattle.std.specs.List.{list_any, slice_get}
+use Rattle.std.specs.Prelude.{ℕ, ◌+◌, ◌-◌, Bool, nat_eq, nat_lt, if◌then◌else◌, List, [], ◌∷◌, map as list_map, filter}
+use Rattle.std.specs.List.{list_any}
 use Rattle.cells_edge.specs.declared.wire.Packet.{Packet as WirePacket}
 use Rattle.claim_types.specs.declared.message.Reply.{Reply}
 use Rattle.claim_types.specs.declared.message.Reply.TheVariants.{Begun, Committed, RolledBack, Leases, Ranged, Claims, Classified, Page, NoCell}
 use Rattle.claim_map.specs.Legal.{Message, ask, answer}
 use Rattle.claim_laws.specs.World.{Packet}
-use Rattle.claim_laws.specs.Bounded.{IsMessage}
 use Rattle.claim_service.specs.declared.limits.TheConstants.{SERVICE_FILE}
 use Rattle.topology_http.specs.Requests.{message_of as request_text}
 use Rattle.topology_http.specs.Replies.{message_of as reply_text}

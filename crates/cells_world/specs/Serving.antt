@@ -1,18 +1,15 @@
 -- What the service's call answers, and the step that is told from its reply.
-use Rattle.std.specs.Prelude.{◌≡◌, ℕ, Bool, true, false, IsTrue, Option, Some, None, Result, Ok, Err}
+use Rattle.std.specs.Prelude.{Bool, true, false, IsTrue, Option, Some, None}
 use Rattle.disk_journal.specs.declared.disk.Disk.{Ghosts}
 use Rattle.claim_types.specs.declared.message.Request.{Request}
 use Rattle.claim_types.specs.declared.message.Request.TheVariants.{Begin, Commit, Rollback, List as ListRequest, Range as RangeRequest, Claims, Classify, Page}
-use Rattle.claim_types.specs.declared.message.BegunResult.TheVariants.{Good as BegunGood, Denied}
-use Rattle.claim_types.specs.declared.message.RangedResult.TheVariants.{Good as RangedGood, UnknownCell, TooFar, Exhausted}
+use Rattle.claim_types.specs.declared.message.BegunResult.TheVariants.{Denied}
+use Rattle.claim_types.specs.declared.message.RangedResult.TheVariants.{Good as RangedGood}
 use Rattle.claim_types.specs.declared.message.Reply.{Reply}
-use Rattle.claim_types.specs.declared.message.Reply.TheVariants.{Begun, Committed as CommittedReply, RolledBack as RolledBackReply, Leases, Ranged as RangedReply, Claims as ClaimsReply, Classified, Page as PageReply, NoCell}
+use Rattle.claim_types.specs.declared.message.Reply.TheVariants.{Begun, Ranged as RangedReply, Classified}
 use Rattle.claim_types.specs.declared.step.Step.{Step}
 use Rattle.claim_types.specs.declared.step.Step.TheVariants.{Leased, Denied as DeniedStep, Committed, RolledBack, Ranged, Answered}
-use Rattle.claim_map.specs.Due.{Due}
-use Rattle.claim_map.specs.Registry.{Registry}
 use Rattle.claim_service.specs.Node.{IsNode, Rests}
-use Rattle.claim_service.specs.State.{kept, kept_after, owed}
 use Rattle.claim_service.specs.declared.node.TopologyNode.{TopologyNode}
 
 -- the step that a request asks for

@@ -8,7 +8,6 @@ use Rattle.disk_journal.specs.Moments.{LeavesOnly}
 use Rattle.disk_journal.specs.Entries.{Stands}
 use Rattle.cells_edge.specs.declared.wire.Packet.{Packet as WirePacket}
 use Rattle.cells_edge.specs.declared.wire.Wire.{Ghosts as WireGhosts}
-use Rattle.claim_map.specs.Legal.{Message, ask, answer}
 use Rattle.claim_map.specs.Registry.{Registry, cell_of}
 use Rattle.claim_map.specs.State.{ClaimMap, tree_of}
 use Rattle.claim_laws.specs.Acts.{after_message}
@@ -23,7 +22,7 @@ use Rattle.claim_service.specs.declared.limits.TheConstants.{SERVICE_FILE}
 use Rattle.cell_store.specs.Store.{store, stored}
 use Rattle.reconciler.specs.Agent.{kept_by}
 use Rattle.reconciler.specs.declared.agent.CellAgent.{CellAgent}
-use Rattle.cells_world.specs.Packets.{spelled, spelled_from, let_through}
+use Rattle.cells_world.specs.Packets.{spelled}
 use Rattle.cells_world.specs.Post.{packets_of}
 use Rattle.cells_world.specs.declared.cluster.Cluster.{Cluster}
 

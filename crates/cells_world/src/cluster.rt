@@ -37,7 +37,8 @@ use cells_edge::{Wire, WireError};
 use cells_script::{Answer, Line};
 use claim_service::TopologyNode;
 use claim_types::{
-    BegunResult, Ended, GREATEST_ATTEMPT, LeaseId, Note, RangedResult, Reply, Request, Rule, Step, Transition,
+    BegunResult, Ended, GREATEST_ATTEMPT, LeaseId, Note, RangedResult, Reply, Request, Rule, Step,
+    Transition,
 };
 use disk_journal::Disk;
 use reconciler::{CellAgent, copy_of_denial};
@@ -141,7 +142,11 @@ fn end_due(agent: &mut CellAgent, notes: &mut Vec<Note>, now: u64) -> Result<(),
 
 // What stands behind so many in a list.
 fn behind<'a, T>(all: &'a [T], count: usize) -> &'a [T] {
-    if count <= all.len() { &all[count..] } else { all }
+    if count <= all.len() {
+        &all[count..]
+    } else {
+        all
+    }
 }
 
 // Whether the change of this lease is recorded among these transitions.
@@ -553,10 +558,12 @@ impl Cluster {
         let waiting = Answer::Waiting { lease: Some(lease) };
         match self.course.reply(&self.post) {
             None => Ok(waiting),
-            Some(Reply::Begun {
-                result: BegunResult::Denied(denial),
-                ..
-            }) => Ok(Answer::Denied {
+            Some(
+                Reply::Begun {
+                    result: BegunResult::Denied(denial),
+                    ..
+                },
+            ) => Ok(Answer::Denied {
                 lease,
                 denial: copy_of_denial(alloc, denial)?,
             }),

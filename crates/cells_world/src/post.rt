@@ -40,11 +40,13 @@ fn is_lost(armed: &[u64]) -> bool
 fn after_put(alloc: Global, armed: &[u64]) -> Result<Vec<u64>, NoMemory>
     ensures { IfOk result (λ rest. rest.items ≡ after_put armed.now) }
 {
-    Ok(armed
-        .iter()
-        .filter(|k| **k > 1)
-        .map(|k| k.saturating_sub(1))
-        .collect(alloc)?)
+    Ok(
+        armed
+            .iter()
+            .filter(|k| **k > 1)
+            .map(|k| k.saturating_sub(1))
+            .collect(alloc)?,
+    )
 }
 
 // Puts a packet on a wire. A put that failed counts as sent.
@@ -61,12 +63,7 @@ fn put_on<N: Wire>(alloc: Global, wire: &mut N, leg: Leg, bytes: &[u8]) -> Resul
 }
 
 // A message in this place, as it is sent.
-fn sent_at(
-    alloc: Global,
-    place: u64,
-    message: Message,
-    answers: u64,
-) -> Result<Sent, NoMemory>
+fn sent_at(alloc: Global, place: u64, message: Message, answers: u64) -> Result<Sent, NoMemory>
     requires room { place < u64.MAX }
     requires bounds { IsMessage (message_of message) }
     ensures is { IfOk result (IsSent place) }

@@ -10,12 +10,7 @@ use record_tree::Tree;
 use std::alloc::Global;
 
 // The record that claims what a text names in a bucket, 0 if there is none.
-fn record_named(
-    alloc: Global,
-    tree: &Tree,
-    bucket: Bucket,
-    text: &[u8],
-) -> Result<u64, NoMemory>
+fn record_named(alloc: Global, tree: &Tree, bucket: Bucket, text: &[u8]) -> Result<u64, NoMemory>
     ensures { IfOk result (λ id. id ≡ spec.record_named tree.now bucket text.now) }
 {
     match ClaimKey::read(alloc, bucket, text) {
@@ -90,7 +85,9 @@ pub fn change_wanted(alloc: Global, line: &Line, tree: &Tree) -> Result<Option<C
             name: lowered(alloc, name.as_slice())?,
         },
         Line::CreateUser {
-            name, organization, ..
+            name,
+            organization,
+            ..
         } => created_below(
             alloc,
             tree,
@@ -100,7 +97,9 @@ pub fn change_wanted(alloc: Global, line: &Line, tree: &Tree) -> Result<Option<C
             organization,
         )?,
         Line::CreateTopGroup {
-            name, organization, ..
+            name,
+            organization,
+            ..
         } => created_below(
             alloc,
             tree,

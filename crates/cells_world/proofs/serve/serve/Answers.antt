@@ -1,4 +1,4 @@
-use Rattle.std.proofs.Common.{◌≡◌, ◌∙◌, ap, sym, Bool, Option, is_some}
+use Rattle.std.proofs.Common.{◌∙◌, ap, is_some}
 use Rattle.claim_map.specs.Due.{Due}
 use Rattle.claim_map.specs.Entries.{entry_of}
 use Rattle.claim_laws.specs.Files.{map_of}

@@ -1,8 +1,8 @@
-use Rattle.std.proofs.Common.{◌≡◌, [], refl, sym, ◌∙◌, ap, subst}
+use Rattle.std.proofs.Common.{sym, ◌∙◌, ap, subst}
 use Rattle.claim_laws.specs.Events.{run}
 use Rattle.std.specs.Prelude.{map as list_map}
 use Rattle.std.specs.List.{slice_get}
-use Rattle.cells_world.specs.Lines.{Acts, own_events}
+use Rattle.cells_world.specs.Lines.{Acts}
 use Rattle.cells_world.specs.Post.{packet_of}
 use Rattle.cells_world.proofs.Posted.{items_of}
 use Rattle.cells_world.specs.World.{IsIn}

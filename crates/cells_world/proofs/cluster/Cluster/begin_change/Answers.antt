@@ -1,29 +1,23 @@
-use Rattle.std.proofs.Common.{◌≡◌, ◌<◌, ◌+◌, ◌++◌, ◌∷◌, [], ⊎_elim, ℕ, List, Some, Option, get_or, length, refl, sym, ◌∙◌, ap, subst, arith}
+use Rattle.std.proofs.Common.{◌≡◌, ◌<◌, ◌++◌, ◌∷◌, [], ℕ, List, Some, get_or, length, refl, sym, ◌∙◌, ap, subst, arith}
 use Rattle.std.specs.List.{Contains, slice_get}
-use Rattle.std.specs.FinMap as map
 use Rattle.std.specs.Vec.{with_item}
 use Rattle.std.proofs.lemmas.Option.{slice_get_read}
 use Rattle.cells_base.proofs.Members.{at_place}
 use Rattle.claim_types.specs.MessageBounds.{IsRequest}
 use Rattle.claim_types.specs.declared.limits.TheConstants.{GREATEST_ATTEMPT}
-use Rattle.claim_types.specs.declared.record.Change.{Change}
 use Rattle.claim_map.specs.State.{tree_of}
 use Rattle.claim_laws.specs.Acts.{packet_of}
-use Rattle.claim_laws.specs.Events.{asks, run}
-use Rattle.claim_laws.specs.Nodes.{Agent}
 use Rattle.cell_store.specs.Store.{stored}
 use Rattle.reconciler.specs.Agent.{kept_by, agent_after}
 use Rattle.reconciler.specs.declared.agent.CellAgent.{CellAgent}
 use Rattle.cells_world.specs.Cluster.{AreAgentsOf, PutsOne}
-use Rattle.cells_world.specs.Lines.{asks_for, own_events}
 use Rattle.cells_world.specs.Post.{packets_of}
 use Rattle.cells_world.specs.Wanted.{change_wanted}
-use Rattle.cells_world.specs.World.{IsIn}
 use Rattle.cells_world.specs.declared.cluster.Cluster.{Cluster}
 use Rattle.cells_world.proofs.Acting.{unknown}
 use Rattle.cells_world.proofs.Places.{puts_set, agents_set, same_some}
 use Rattle.cells_world.proofs.Reconcile.{ready_acted}
-use Rattle.cells_world.proofs.Wanting.{asked_in, refused_in, asked_ok, asked_err, begun, own_of_change, asks_nobody, change_in, answers_rule, spent_in}
+use Rattle.cells_world.proofs.Wanting.{asked_in, refused_in, asked_ok, asked_err, begun, asks_nobody, change_in, answers_rule, spent_in}
 use Rattle.cells_world.proofs.cluster.Cluster.begin_change.Goals as goal
 
 -- the agent that is asked is the one that was read, with an attempt left
@@ -46,7 +40,7 @@ module _ (slice items : List CellAgent) (value : slice ≡ items) (place : ℕ) 
 pub returns-in_default-clause-acts : goal.returns-in_default-clause-acts
 returns-in_default-clause-acts g c = λ start w order is_in.
     asks_nobody c.args.self.now w c.args.self.now.registry c.args.cell c.args.now c.args.line.now c.requires.cell
-      (unknown c.args.self.now w c.args.cell is_in (λ a there. c.in_default.ensures.missing a (subst (λ xs. Contains xs a) (sym c.as_slice-cells.ensures.value) there))) is_in
+    (unknown c.args.self.now w c.args.cell is_in (λ a there. c.in_default.ensures.missing a (subst (λ xs. Contains xs a) (sym c.as_slice-cells.ensures.value) there))) is_in
 
 -- the last attempt of the epoch was drawn
 pub returns-then-drawn-ge-GREATEST_ATTEMPT-clause-acts : goal.returns-then-drawn-ge-GREATEST_ATTEMPT-clause-acts
@@ -96,14 +90,14 @@ returns-in_ok-request-in-Ok-clause-acts g c = λ start w order is_in. (
     let asked = asked_ok _ c.in-Ok.request c.in-Ok.ensures.asked.0 in
     let kept = c.in-Ok.ensures.asked.1 ∙ ap (λ r. agent_after r (kept_by k)) asked.1 in
     let wanted : change_wanted c.args.line.now (tree_of w.claims k.store.cell) ≡ Some c.in-Some-2.change =
-        ap (change_wanted c.args.line.now) ((is_in.cells k inside).tree ∙ ap (λ (x : CellAgent). (stored x.store).tree) (sym one_agent) ∙ sym (c.tree.ensures ∙ ap (λ s. (stored s).tree) c.store.ensures))
-        ∙ sym c.in_ok-change.ensures ∙ c.in-Some-2.is in
+    ap (change_wanted c.args.line.now) ((is_in.cells k inside).tree ∙ ap (λ (x : CellAgent). (stored x.store).tree) (sym one_agent) ∙ sym (c.tree.ensures ∙ ap (λ s. (stored s).tree) c.store.ensures))
+    ∙ sym c.in_ok-change.ensures ∙ c.in-Some-2.is in
     let puts = subst (PutsOne old.cells.items after) (sym c.request.ensures.same.cells) (puts_set old.registry old.cells.items place k after c.requires.ready.agents there c.ask_change.ensures.same.store.cell) in
     change_in c.request.new.self w old.registry c.args.line.now c.args.cell c.args.now k.store.cell c.in-Some-2.change c.requires.cell of_cell wanted
     (asked_in old w old.registry k c.in-Some-2.change c.args.now is_in inside (left c.as_slice-cells.result.now c.args.self.now.cells.items c.as_slice-cells.ensures.value c.in-Some.place c.index-cells-place.result c.index_mut.result.now c.in-Some.ensures.within c.index-cells-place.is c.index_mut.ensures.value c.drawn.result c.drawn.ensures (let few = c.if-drawn-ge-GREATEST_ATTEMPT.false in omega (arith, few))) c.request.new.self after asked.0 asked.1 c.ask_change.ensures.store kept puts
-      c.request.ensures.same.service (ap (λ t. t.items) c.request.ensures.same.trace) c.request.ensures.same.takes
-      (c.in_ok-request-in-Ok.ensures.sends.sent ∙ ap (λ r. packets_of old.post ++ packet_of r ∷ []) asked.2)
-      (ap (λ t. t.items) c.request.ensures.same.notes)))
+    c.request.ensures.same.service (ap (λ t. t.items) c.request.ensures.same.trace) c.request.ensures.same.takes
+    (c.in_ok-request-in-Ok.ensures.sends.sent ∙ ap (λ r. packets_of old.post ++ packet_of r ∷ []) asked.2)
+    (ap (λ t. t.items) c.request.ensures.same.notes)))
 
 pub returns-in_ok-request-in-Ok-clause-ready : goal.returns-in_ok-request-in-Ok-clause-ready
 returns-in_ok-request-in-Ok-clause-ready g c =
@@ -116,9 +110,9 @@ returns-in_ok-request-in-Ok-clause-ready g c =
     let same = c.ask_change.ensures.same.store.cell in
     let cells = sym c.request.ensures.same.cells in
     ready_acted g.D.Disk c.args.disk.now old c.request.new.self c.requires.ready c.request.ensures.same.registry c.in_ok-request-in-Ok.ensures.packets
-      k after (at_place old.cells.items place k there) c.ask_change.ensures.store c.ask_change.ensures.same.threshold c.ask_change.ensures.agent c.request.ensures.same.service
-      (subst (PutsOne old.cells.items after) cells (puts_set old.registry old.cells.items place k after c.requires.ready.agents there same))
-      (subst (AreAgentsOf old.registry) cells (agents_set old.registry old.cells.items place k after c.requires.ready.agents there same))
+    k after (at_place old.cells.items place k there) c.ask_change.ensures.store c.ask_change.ensures.same.threshold c.ask_change.ensures.agent c.request.ensures.same.service
+    (subst (PutsOne old.cells.items after) cells (puts_set old.registry old.cells.items place k after c.requires.ready.agents there same))
+    (subst (AreAgentsOf old.registry) cells (agents_set old.registry old.cells.items place k after c.requires.ready.agents there same))
 
 pub returns-in_ok-refused-in-Err-clause-acts : goal.returns-in_ok-refused-in-Err-clause-acts
 returns-in_ok-refused-in-Err-clause-acts g c = λ start w order is_in. (
@@ -146,12 +140,12 @@ returns-in_ok-refused-in-Err-clause-acts g c = λ start w order is_in. (
     let asked = asked_err _ c.in-Err.rule answer.0 in
     let kept = answer.1 ∙ ap (λ r. agent_after r (kept_by k)) asked.1 in
     let wanted : change_wanted c.args.line.now (tree_of w.claims k.store.cell) ≡ Some c.in-Some-2.change =
-        ap (change_wanted c.args.line.now) ((is_in.cells k inside).tree ∙ ap (λ (x : CellAgent). (stored x.store).tree) (sym one_agent) ∙ sym (c.tree.ensures ∙ ap (λ s. (stored s).tree) c.store.ensures))
-        ∙ sym c.in_ok-change.ensures ∙ c.in-Some-2.is in
+    ap (change_wanted c.args.line.now) ((is_in.cells k inside).tree ∙ ap (λ (x : CellAgent). (stored x.store).tree) (sym one_agent) ∙ sym (c.tree.ensures ∙ ap (λ s. (stored s).tree) c.store.ensures))
+    ∙ sym c.in_ok-change.ensures ∙ c.in-Some-2.is in
     change_in new w old.registry c.args.line.now c.args.cell c.args.now k.store.cell c.in-Some-2.change c.requires.cell of_cell wanted
     (refused_in old w old.registry k c.in-Some-2.change c.args.now is_in inside (left c.as_slice-cells.result.now c.args.self.now.cells.items c.as_slice-cells.ensures.value c.in-Some.place c.index-cells-place.result c.index_mut.result.now c.in-Some.ensures.within c.index-cells-place.is c.index_mut.ensures.value c.drawn.result c.drawn.ensures (let few = c.if-drawn-ge-GREATEST_ATTEMPT.false in omega (arith, few))) new after asked.0 asked.1 c.ask_change.ensures.store kept
-      (puts_set old.registry old.cells.items place k after c.requires.ready.agents there c.ask_change.ensures.same.store.cell)
-      refl refl refl refl refl))
+    (puts_set old.registry old.cells.items place k after c.requires.ready.agents there c.ask_change.ensures.same.store.cell)
+    refl refl refl refl refl))
 
 pub returns-in_ok-refused-in-Err-clause-ready : goal.returns-in_ok-refused-in-Err-clause-ready
 returns-in_ok-refused-in-Err-clause-ready g c =
@@ -173,6 +167,6 @@ returns-in_ok-refused-in-Err-clause-ready g c =
     let there = at_k c.as_slice-cells.result.now c.args.self.now.cells.items c.as_slice-cells.ensures.value c.in-Some.place c.index-cells-place-2.result c.index_mut.result.now c.in-Some.ensures.within c.index-cells-place-2.is c.index_mut.ensures.value in
     let same = c.ask_change.ensures.same.store.cell in
     ready_acted g.D.Disk c.args.disk.now old new c.requires.ready refl c.requires.ready.packets
-      k after (at_place old.cells.items place k there) c.ask_change.ensures.store c.ask_change.ensures.same.threshold c.ask_change.ensures.agent refl
-      (puts_set old.registry old.cells.items place k after c.requires.ready.agents there same)
-      (agents_set old.registry old.cells.items place k after c.requires.ready.agents there same)
+    k after (at_place old.cells.items place k there) c.ask_change.ensures.store c.ask_change.ensures.same.threshold c.ask_change.ensures.agent refl
+    (puts_set old.registry old.cells.items place k after c.requires.ready.agents there same)
+    (agents_set old.registry old.cells.items place k after c.requires.ready.agents there same)

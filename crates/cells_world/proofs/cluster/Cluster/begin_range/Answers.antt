@@ -1,4 +1,4 @@
-use Rattle.std.proofs.Common.{◌≡◌, ◌<◌, ◌++◌, ◌∷◌, [], refl, sym, ◌∙◌, ap, subst, Some, get_or, length}
+use Rattle.std.proofs.Common.{◌≡◌, ◌++◌, ◌∷◌, [], refl, sym, ◌∙◌, ap, subst, Some, length}
 use Rattle.std.specs.List.{Contains, slice_get}
 use Rattle.std.specs.FinMap as map
 use Rattle.std.proofs.lemmas.Option.{slice_get_read}
@@ -7,7 +7,6 @@ use Rattle.claim_types.specs.MessageBounds.{IsRequest}
 use Rattle.claim_laws.specs.Acts.{packet_of}
 use Rattle.claim_laws.specs.Events.{run}
 use Rattle.reconciler.specs.declared.agent.CellAgent.{CellAgent}
-use Rattle.cells_world.specs.Cluster.{Lacks}
 use Rattle.cells_world.specs.Lines.{asks_range}
 use Rattle.cells_world.specs.Post.{packets_of}
 use Rattle.cells_world.specs.World.{IsIn}
@@ -33,7 +32,7 @@ pub request-requires-clause-bounds : goal.request-requires-clause-bounds
 request-requires-clause-bounds g c =
     let k : CellAgent = c.index-cells-place.result in
     let there : slice_get c.args.self.now.cells.items c.in-Some.place ≡ Some k = ap (λ xs. slice_get xs c.in-Some.place) (sym c.as_slice-cells.ensures.value)
-        ∙ slice_get_read c.as_slice-cells.result.now (length c.as_slice-cells.result.now) c.in-Some.place k refl c.in-Some.ensures.within c.index-cells-place.is in
+    ∙ slice_get_read c.as_slice-cells.result.now (length c.as_slice-cells.result.now) c.in-Some.place k refl c.in-Some.ensures.within c.index-cells-place.is in
     let ready = c.requires.ready.cells k (at_place c.args.self.now.cells.items c.in-Some.place k there) in
     subst IsRequest (sym c.ask_range-request.ensures) (range_bounds k ready.agent.store c.args.number (c.is_zero.ensures.other c.if-is_zero.false))
 
@@ -45,8 +44,8 @@ returns-clause-acts g c = λ now start w order is_in. (
     let there : slice_get c.args.self.now.cells.items c.in-Some.place ≡ Some k = ap (λ xs. slice_get xs c.in-Some.place) (sym c.as_slice-cells.ensures.value) ∙ read in
     let of_cell = ap (λ (x : CellAgent). x.store.cell) (same_some k found.0 (sym read ∙ found.1)) ∙ found.2 in
     range_in c.args.self.now c.request.new.self w c.args.self.now.registry k c.args.cell c.args.number is_in (at_place c.args.self.now.cells.items c.in-Some.place k there) of_cell
-      (c.is_zero.ensures.other c.if-is_zero.false) c.request.ensures.same
-      (c.in_ok-request.ensures.sends.sent ∙ ap (λ r. packets_of c.args.self.now.post ++ packet_of r ∷ []) c.ask_range-request.ensures))
+    (c.is_zero.ensures.other c.if-is_zero.false) c.request.ensures.same
+    (c.in_ok-request.ensures.sends.sent ∙ ap (λ r. packets_of c.args.self.now.post ++ packet_of r ∷ []) c.ask_range-request.ensures))
 
 pub returns-clause-ready : goal.returns-clause-ready
 returns-clause-ready g c = ready_sent g.D.Disk c.args.disk.now c.args.self.now c.request.new.self c.requires.ready c.request.ensures.same.registry c.in_ok-request.ensures.packets c.request.ensures.same.service c.request.ensures.same.cells

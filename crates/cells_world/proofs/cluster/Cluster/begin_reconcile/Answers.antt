@@ -5,7 +5,6 @@ use Rattle.std.specs.Vec.{with_item}
 use Rattle.std.proofs.lemmas.Option.{slice_get_read, slice_get_within}
 use Rattle.cells_base.proofs.Members.{at_place}
 use Rattle.claim_laws.specs.Acts.{packet_of}
-use Rattle.claim_laws.specs.Nodes.{due_attempts}
 use Rattle.cell_store.specs.declared.store.CellStore.{CellStore}
 use Rattle.reconciler.specs.Agent.{kept_by}
 use Rattle.reconciler.specs.declared.agent.CellAgent.{CellAgent}
@@ -13,7 +12,7 @@ use Rattle.cells_world.specs.Cluster.{IsPlaceOf, Lacks}
 use Rattle.cells_world.specs.Post.{packets_of, AreRequests}
 use Rattle.cells_world.specs.declared.cluster.Cluster.{Cluster}
 use Rattle.cells_world.proofs.Places.{puts_set, agents_set, same_some}
-use Rattle.cells_world.proofs.Reconcile.{ready_acted, asks_bounds, reconciles_nothing, reconciles_in, reconciles_drawn}
+use Rattle.cells_world.proofs.Reconcile.{ready_acted, asks_bounds, reconciles_nothing, reconciles_in}
 use Rattle.cells_world.proofs.cluster.Cluster.begin_reconcile.Goals as goal
 
 -- the agent of the place

@@ -5,7 +5,7 @@ use Rattle.std.specs.Vec.{with_item}
 use Rattle.std.proofs.lemmas.Option.{slice_get_read, slice_get_within}
 use Rattle.cells_base.proofs.Members.{at_place}
 use Rattle.claim_types.specs.MessageBounds.{IsReply}
-use Rattle.claim_map.specs.Legal.{Message as Said, ask, answer}
+use Rattle.claim_map.specs.Legal.{ask, answer}
 use Rattle.claim_map.proofs.Bounded.{due_bounds}
 use Rattle.claim_laws.specs.Acts.{packet_of, after_message}
 use Rattle.claim_laws.specs.Bounded.{IsMessage}
@@ -13,10 +13,10 @@ use Rattle.claim_laws.specs.Files.{map_of}
 use Rattle.claim_laws.specs.World.{Packet}
 use Rattle.claim_service.specs.State.{kept, owed}
 use Rattle.cell_store.specs.Store.{stored}
-use Rattle.reconciler.specs.Agent.{kept_by, heard_by, IsReady as IsAgentReady}
+use Rattle.reconciler.specs.Agent.{kept_by}
 use Rattle.reconciler.specs.declared.agent.CellAgent.{CellAgent}
 use Rattle.cells_world.specs.Cluster.{traced_by, noted_by}
-use Rattle.cells_world.specs.Packets.{message_of, address_of_reply}
+use Rattle.cells_world.specs.Packets.{message_of}
 use Rattle.cells_world.specs.Post.{packet_of as sent_packet, packets_of, ArePackets, AreRequests}
 use Rattle.cells_world.specs.World.{at as moment, Leads}
 use Rattle.cells_world.specs.declared.cluster.Cluster.{Cluster}
@@ -80,8 +80,8 @@ returns-in_default-clause-hands g c = λ p at_p start w order is_in. (
     let message_is : p.message ≡ answer c.in-Answer.reply = carries old.post c.args.at c.index-sent-at.result c.requires.place (c.index-sent-at.is ∙ ap (λ xs. get_or xs c.args.at c.index-sent-at.result) c.sent.ensures) p at_p (AsAnswer c.in-Answer.reply) (sym c.message.ensures ∙ c.in-Answer.is) in
     subst (λ m. Leads g.D.Disk w (after_message old.registry (c.args.at + 1) m w) (moment old c.args.disk.now c.args.wire.now) (moment new c.args.disk.now c.args.wire.now)) (sym message_is)
     (nobody_leads g.D.Disk old new c.args.disk.now c.args.wire.now c.in-Answer.reply g.met.D.Disk.only_now c.requires.ready
-      (λ a there same. c.in_default.ensures.missing a (subst (λ xs. Contains xs a) (sym c.as_slice.ensures.value) there) (same ∙ sym c.receiver_of.ensures))
-      refl refl refl c.reserve.ensures.items c.reserve-2.ensures.items refl w is_in))
+    (λ a there same. c.in_default.ensures.missing a (subst (λ xs. Contains xs a) (sym c.as_slice.ensures.value) there) (same ∙ sym c.receiver_of.ensures))
+    refl refl refl c.reserve.ensures.items c.reserve-2.ensures.items refl w is_in))
 
 pub index_mut-requires : goal.index_mut-requires
 index_mut-requires g c =
@@ -132,10 +132,10 @@ returns-in_ok-send-in-Ask-clause-hands g c = λ p at_p start w order is_in. (
     let message_is : p.message ≡ ask request = carries old.post c.args.at c.index-sent-at.result c.requires.place (c.index-sent-at.is ∙ ap (λ xs. get_or xs c.args.at c.index-sent-at.result) c.sent.ensures) p at_p (AsAsk request) (sym c.message.ensures ∙ c.in-Ask.is) in
     subst (λ m. Leads g.D.Disk w (after_message old.registry (c.args.at + 1) m w) (moment old c.args.disk.now c.args.wire.now) (moment new c.serve.new.disk c.send.new.wire)) (sym message_is)
     (served_leads g.D.Disk old new c.args.disk.now c.serve.new.disk c.args.wire.now c.send.new.wire c.args.at request due c.requires.ready refl
-      c.in_ok-served-in-Ask.ensures.keeps c.serve.ensures.any_moment refl
-      (c.in_ok-send-in-Ask.ensures.sends.sent ∙ ap (λ r. packets_of old.post ++ record { message = answer r; answers = c.args.at + 1 } ∷ []) c.in_ok-served-in-Ask.ensures.reply)
-      (c.trace.ensures ∙ ap (λ t. traced_by c.in_ok-served-in-Ask.served.step old.takes t) c.reserve.ensures.items ∙ ap (λ st. traced_by st old.takes old.trace.items) c.in_ok-served-in-Ask.ensures.step)
-      c.reserve-2.ensures.items refl start w order is_in))
+    c.in_ok-served-in-Ask.ensures.keeps c.serve.ensures.any_moment refl
+    (c.in_ok-send-in-Ask.ensures.sends.sent ∙ ap (λ r. packets_of old.post ++ record { message = answer r; answers = c.args.at + 1 } ∷ []) c.in_ok-served-in-Ask.ensures.reply)
+    (c.trace.ensures ∙ ap (λ t. traced_by c.in_ok-served-in-Ask.served.step old.takes t) c.reserve.ensures.items ∙ ap (λ st. traced_by st old.takes old.trace.items) c.in_ok-served-in-Ask.ensures.step)
+    c.reserve-2.ensures.items refl start w order is_in))
 
 pub returns-in_ok-send-in-Ask-clause-ready : goal.returns-in_ok-send-in-Ask-clause-ready
 returns-in_ok-send-in-Ask-clause-ready g c =
@@ -179,12 +179,12 @@ returns-in_ok-send_requests-in-Answer-clause-hands g c = λ p at_p start w order
     let comes = ap (λ m. after_message old.registry (c.args.at + 1) m w) message_is ∙ reply_comes old w k reply (is_in.cells k inside) of_cell in
     subst (λ v. Leads g.D.Disk w v (moment old c.args.disk.now c.args.wire.now) (moment new c.hear.new.disk c.send_requests.new.wire)) (sym comes)
     (heard_leads g.D.Disk old new c.args.disk.now c.hear.new.disk c.args.wire.now c.send_requests.new.wire c.args.at reply k c.hear.new.agent
-      c.requires.ready inside of_cell told.tree told.agent c.hear.ensures.same.store.cell c.hear.ensures.any_moment refl
-      (puts_set old.registry old.cells.items c.in-Some.place k c.hear.new.agent c.requires.ready.agents there c.hear.ensures.same.store.cell)
-      (c.in_ok-send_requests-in-Answer.ensures.sends.sent ∙ ap (λ rs. packets_of old.post ++ list_map packet_of rs) (c.into_vec.ensures ∙ told.sends))
-      (c.trace-in-Answer.ensures ∙ ap (λ t. traced_by c.in_ok-told-in-Answer.told.step old.takes t) c.reserve.ensures.items ∙ ap (λ st. traced_by st old.takes old.trace.items) told.step)
-      (c.note.ensures ∙ ap (λ t. noted_by c.in_ok-told-in-Answer.told.ended t) c.reserve-2.ensures.items ∙ ap (λ en. noted_by en old.notes.items) told.ended)
-      refl start w order is_in))
+    c.requires.ready inside of_cell told.tree told.agent c.hear.ensures.same.store.cell c.hear.ensures.any_moment refl
+    (puts_set old.registry old.cells.items c.in-Some.place k c.hear.new.agent c.requires.ready.agents there c.hear.ensures.same.store.cell)
+    (c.in_ok-send_requests-in-Answer.ensures.sends.sent ∙ ap (λ rs. packets_of old.post ++ list_map packet_of rs) (c.into_vec.ensures ∙ told.sends))
+    (c.trace-in-Answer.ensures ∙ ap (λ t. traced_by c.in_ok-told-in-Answer.told.step old.takes t) c.reserve.ensures.items ∙ ap (λ st. traced_by st old.takes old.trace.items) told.step)
+    (c.note.ensures ∙ ap (λ t. noted_by c.in_ok-told-in-Answer.told.ended t) c.reserve-2.ensures.items ∙ ap (λ en. noted_by en old.notes.items) told.ended)
+    refl start w order is_in))
 
 pub returns-in_ok-send_requests-in-Answer-clause-ready : goal.returns-in_ok-send_requests-in-Answer-clause-ready
 returns-in_ok-send_requests-in-Answer-clause-ready g c =
@@ -206,10 +206,10 @@ returns-in_ok-send_requests-in-Answer-clause-ready g c =
     let there = agent_here old.cells.items c.in-Some.place k found.0 here c.index_mut.ensures.value in
     let same = c.hear.ensures.same.store.cell in
     ready_heard g.D.Disk c.args.disk.now c.hear.new.disk old new c.requires.ready refl c.in_ok-send_requests-in-Answer.ensures.packets
-      k c.hear.new.agent (at_place old.cells.items c.in-Some.place k there) same c.hear.ensures.same.threshold refl
-      (puts_set old.registry old.cells.items c.in-Some.place k c.hear.new.agent c.requires.ready.agents there same)
-      (agents_set old.registry old.cells.items c.in-Some.place k c.hear.new.agent c.requires.ready.agents there same)
-      c.in_ok-told-in-Answer.ensures.ready c.hear.ensures.others
+    k c.hear.new.agent (at_place old.cells.items c.in-Some.place k there) same c.hear.ensures.same.threshold refl
+    (puts_set old.registry old.cells.items c.in-Some.place k c.hear.new.agent c.requires.ready.agents there same)
+    (agents_set old.registry old.cells.items c.in-Some.place k c.hear.new.agent c.requires.ready.agents there same)
+    c.in_ok-told-in-Answer.ensures.ready c.hear.ensures.others
 
 pub returns-in_default-clause-grows : goal.returns-in_default-clause-grows
 returns-in_default-clause-grows g c = grows_none c.args.self.now

@@ -1,4 +1,4 @@
-use Rattle.std.proofs.Common.{◌≡◌, List, refl, sym, ◌∙◌, ap, subst}
+use Rattle.std.proofs.Common.{List, refl, subst}
 use Rattle.claim_laws.specs.Events.{Event}
 use Rattle.cells_world.specs.Lines.{AreOf}
 use Rattle.cells_world.specs.World.{Goes, at as moment}
@@ -27,8 +27,8 @@ returns-clause-follows g c = λ start w order is_in. (
     let after = moment c.take_all.new.self c.take_all.new.disk c.take_all.new.wire in
     subst (λ m. (es : List Event) × AreOf w m c.args.line.now es × Goes g.D.Disk g.N.Wire old.registry w before after es) c.moment-now.ensures
     (follows g.D.Disk g.N.Wire before after c.begin.new.self c.begin.new.wire c.moment-now.result c.args.line.now g.met.D.Disk.only_now c.requires.ready c.begin.ensures.same.registry
-      (λ s v in_order is. c.in_ok-begun.ensures.acts s v in_order (same_in old idle v is refl refl refl refl refl refl))
-      c.begin.ensures.handed c.in_ok-take_all.ensures.hands start w order is_in))
+    (λ s v in_order is. c.in_ok-begun.ensures.acts s v in_order (same_in old idle v is refl refl refl refl refl refl))
+    c.begin.ensures.handed c.in_ok-take_all.ensures.hands start w order is_in))
 
 -- the notes of its own event, and then what packets brought about
 pub returns-clause-grows : goal.returns-clause-grows

@@ -1,4 +1,4 @@
-use Rattle.std.proofs.Common.{◌≡◌, ◌≤◌, ◌++◌, [], refl, sym, ◌∙◌, ap, subst, arith}
+use Rattle.std.proofs.Common.{◌++◌, [], refl, ◌∙◌, arith}
 use Rattle.cells_world.specs.World.{at as moment}
 use Rattle.cells_world.proofs.Growing.{grows_none, grows_on}
 use Rattle.cells_world.proofs.Going.{hands_nothing, hands_on}
@@ -22,7 +22,7 @@ loop-init g c = record {
 pub returns-then-not-branch-clause-hands : goal.returns-then-not-branch-clause-hands
 returns-then-not-branch-clause-hands g c =
     hands_on g.D.Disk g.N.Wire (moment c.args.self.now c.args.disk.now c.args.wire.now) (moment c.loop.self c.loop.disk c.loop.wire) (moment c.take_one.new.self c.take_one.new.disk c.take_one.new.wire)
-      c.loop.invariant.registry c.requires.ready.configured c.loop.invariant.hands c.in_ok-take_one.ensures.hands
+    c.loop.invariant.registry c.requires.ready.configured c.loop.invariant.hands c.in_ok-take_one.ensures.hands
 
 pub returns-then-not-branch-clause-sends : goal.returns-then-not-branch-clause-sends
 returns-then-not-branch-clause-sends g c =

@@ -1,4 +1,4 @@
-use Rattle.std.proofs.Common.{◌≡◌, ◌+◌, refl, sym, ◌∙◌, ap, subst}
+use Rattle.std.proofs.Common.{◌+◌, refl, ◌∙◌, subst}
 use Rattle.std.specs.Prelude.{Ok}
 use Rattle.cells_edge.specs.Wire.{IsTaken}
 use Rattle.cells_world.specs.World.{at as moment}
@@ -33,10 +33,10 @@ returns-in-Some-clause-hands g c =
       course = c.after-self.result;
     } in
     hands_sent g.D.Disk g.N.Wire (moment c.args.self.now c.args.disk.now c.args.wire.now) counted c.in-Ok-Some.packet
-      (record { registry = refl; service = refl; cells = refl; sent = refl; trace = refl; notes = refl; takes = refl })
-      c.in-Some.at (moment c.hand.new.self c.hand.new.disk c.hand.new.wire) c.take.new.self
-      c.in-Some.ensures.found c.in_ok-hand-in-Some.ensures.hands
-      (λ tells. c.hand.ensures.handed tells ∙ subst (λ o. IsTaken (Ok o) (g.N.Wire.handed c.args.wire.now) (g.N.Wire.handed c.take.new.self)) c.in-Ok-Some.field-0-is (c.in-Ok-Some.ensures.handed tells))
+    (record { registry = refl; service = refl; cells = refl; sent = refl; trace = refl; notes = refl; takes = refl })
+    c.in-Some.at (moment c.hand.new.self c.hand.new.disk c.hand.new.wire) c.take.new.self
+    c.in-Some.ensures.found c.in_ok-hand-in-Some.ensures.hands
+    (λ tells. c.hand.ensures.handed tells ∙ subst (λ o. IsTaken (Ok o) (g.N.Wire.handed c.args.wire.now) (g.N.Wire.handed c.take.new.self)) c.in-Ok-Some.field-0-is (c.in-Ok-Some.ensures.handed tells))
 
 -- one that nobody here sent
 pub returns-clause-hands : goal.returns-clause-hands
@@ -53,8 +53,8 @@ returns-clause-hands g c =
       course = c.args.self.now.course;
     } in
     hands_stray g.D.Disk g.N.Wire (moment c.args.self.now c.args.disk.now c.args.wire.now) counted c.in-Ok-Some.packet
-      (record { registry = refl; service = refl; cells = refl; sent = refl; trace = refl; notes = refl; takes = refl })
-      c.take.new.self g.met.D.Disk.only_now c.requires.ready c.in-None.ensures.missing (λ tells. subst (λ o. IsTaken (Ok o) (g.N.Wire.handed c.args.wire.now) (g.N.Wire.handed c.take.new.self)) c.in-Ok-Some.field-0-is (c.in-Ok-Some.ensures.handed tells))
+    (record { registry = refl; service = refl; cells = refl; sent = refl; trace = refl; notes = refl; takes = refl })
+    c.take.new.self g.met.D.Disk.only_now c.requires.ready c.in-None.ensures.missing (λ tells. subst (λ o. IsTaken (Ok o) (g.N.Wire.handed c.args.wire.now) (g.N.Wire.handed c.take.new.self)) c.in-Ok-Some.field-0-is (c.in-Ok-Some.ensures.handed tells))
 
 pub returns-in-Ok-None-clause-grows : goal.returns-in-Ok-None-clause-grows
 returns-in-Ok-None-clause-grows g c = grows_none c.args.self.now c.args.self.now refl refl

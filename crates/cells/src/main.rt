@@ -5,7 +5,8 @@ ghost use Rattle.std.specs.Prelude.{◌≢◌};
 ghost use Rattle.cells_cli.specs.declared.status.Status.TheVariants as status;
 
 use cells_cli::{Status, finish, run};
-use cells_edge::real::{FileSource, StdSink, StdSource};
+use cells_edge::MemoryWire;
+use cells_edge::real::{FileSource, StdSink, StdSource, SystemClock};
 use disk_journal::FileDisk;
 use std::env;
 use std::io::{self, ErrorKind};
@@ -41,6 +42,9 @@ fn main(rt: HostRuntime) -> ExitCode {
     };
     let mut config = FileSource::new(&rt, CONFIG);
     let mut script = StdSource::new(rt.stdin());
+    // Packets go through memory, and nothing befalls them.
+    let mut wire = MemoryWire::new(rt.alloc(), Vec::new(rt.alloc()));
+    let mut clock = SystemClock::new(&rt);
     let status = run(
         rt.alloc(),
         &words,
@@ -48,6 +52,8 @@ fn main(rt: HostRuntime) -> ExitCode {
         &mut script,
         &mut out,
         &mut disk,
+        &mut wire,
+        &mut clock,
     );
     ExitCode::from(status.code())
 }

@@ -11,3 +11,11 @@ pub mod Bounds
 pub mod Installed
 pub mod Making
 pub mod Distinct
+pub mod Written
+pub mod Telling
+pub mod Went
+pub mod Doing
+pub mod Scripted
+pub mod Causes
+pub mod Opened
+pub mod Reporting

@@ -12,12 +12,14 @@ use Rattle.cells_cli.specs.declared.config.ConfigFault.{ConfigFault}
 use Rattle.cells_cli.specs.declared.config.ConfigFault.TheVariants.{Read, Long, Refused, NoSuchCell, Memory as NoRoom}
 use Rattle.cells_cli.specs.Lines.{first_refused}
 use Rattle.cells_cli.specs.Service.{Start}
-use Rattle.cells_cli.specs.Config.{Job, answers_lines, makes_files, Configures, status_of_config}
+use Rattle.cells_cli.specs.Config.{Job, answers_lines, makes_files, does_lines, Configures, status_of_config}
 use Rattle.cells_cli.specs.Replay.{answers, NoneRefused, IsAnswered}
 use Rattle.cells_cli.specs.Status.{last_line}
 use Rattle.cells_cli.specs.Served.{status_of, IsServed, EndsService, EndsAs}
 use Rattle.cells_cli.specs.Report.{Asked, IsWhole, IsFront, IsReport}
 use Rattle.cells_cli.specs.Answering.{EndsAt}
+use Rattle.cells_cli.specs.Script.{lines_done}
+use Rattle.cells_cli.specs.Ups.{nothing_told}
 
 -- the line that is refused is behind lines that are not
 later_some : (b : Bool) (n k : ℕ) (rest : Option ℕ) → cond b (Some n) rest ≡ Some k → ((b ≡ true) × (n ≡ k)) ⊎ ((b ≡ false) × (rest ≡ Some k))
@@ -150,6 +152,11 @@ only_line asked (Ok (makes_files files)) is last once = elim once [
   | inl apart ↦ absurd cc
   | inr (inl read) ↦ subst (λ (s : Status). IsWhole (Ok (makes_files files)) asked.lines s (last_line s)) (sym read) refl
   | inr (inr memory) ↦ subst (λ (s : Status). IsWhole (Ok (makes_files files)) asked.lines s (last_line s)) (sym memory) (0, refl)
+]
+only_line asked (Ok (does_lines registry)) is last once = elim once [
+  | inl apart ↦ absurd cc
+  | inr (inl read) ↦ subst (λ (s : Status). IsWhole (Ok (does_lines registry)) asked.lines s (last_line s)) (sym read) (nothing_told, (refl, (lines_done 0 asked.lines, refl)), refl)
+  | inr (inr memory) ↦ subst (λ (s : Status). IsWhole (Ok (does_lines registry)) asked.lines s (last_line s)) (sym memory) (nothing_told, (lines_done 0 asked.lines, refl), refl)
 ]
 only_line asked (Err why) is last once = ((elim once [ inl own ↦ inl (let e : why ≡ last = cc in sym e) | inr fault ↦ inr fault ]), refl)
 

@@ -5,15 +5,16 @@ use Rattle.std.specs.Str.{bytes_eq}
 use Rattle.std.specs.declared.alloc.Global.{Global}
 use Rattle.claim_map.specs.Registry.{Registry, cell_of}
 use Rattle.claim_service.specs.declared.limits.TheConstants.{SERVICE_FILE}
+use Rattle.cell_registry.specs.Bounds.{is_registry}
 use Rattle.cell_registry.specs.Faults.{fault_number}
 use Rattle.cell_registry.specs.Reading.{registry_text}
 use Rattle.cell_registry.specs.declared.fault.RegistryFault.{RegistryFault}
 use Rattle.cells_cli.specs.declared.command.Command.{Command}
-use Rattle.cells_cli.specs.declared.command.Command.TheVariants.{Replay, ReplayRegistry, Init, InitCell}
+use Rattle.cells_cli.specs.declared.command.Command.TheVariants.{Replay, ReplayRegistry, Init, InitCell, Up}
 use Rattle.cells_cli.specs.declared.config.ConfigFault.{ConfigFault}
 use Rattle.cells_cli.specs.declared.config.ConfigFault.TheVariants.{Read, Long, Refused, NoSuchCell, Memory as NoRoom}
 use Rattle.cells_cli.specs.declared.config.Work.{Work}
-use Rattle.cells_cli.specs.declared.config.Work.TheVariants.{Answer, Make}
+use Rattle.cells_cli.specs.declared.config.Work.TheVariants.{Answer, Make, Run}
 use Rattle.cells_cli.specs.declared.config.TheConstants.{CONFIG_BYTES}
 use Rattle.cells_cli.specs.declared.status.Status.{Status}
 use Rattle.cells_cli.specs.declared.status.Status.TheVariants.{Usage, ConfigRegistry, ConfigLong, ReadFault, Memory}
@@ -26,6 +27,8 @@ pub data Job : Type 0 where
   answers_lines : Start → Job
   -- it makes these files, in this order
   makes_files : List ℕ → Job
+  -- it does the lines of its script over the service and the cells of this configuration
+  does_lines : Registry → Job
 
 abbrev pub is_word : List ℕ → String Global → Bool
 is_word text word = bytes_eq (string_bytes word) text
@@ -46,7 +49,11 @@ cell_named (a ∷ b ∷ c ∷ []) = if is_first_digit a && is_digit b && is_digi
 cell_named (a ∷ b ∷ c ∷ d ∷ more) = None
 
 abbrev pub command_of_one : String Global → Option Command
-command_of_one word = if is_word (codes "replay") word then Some Replay else if is_word (codes "init") word then Some Init else None
+command_of_one word =
+    if is_word (codes "replay") word then Some Replay
+    else if is_word (codes "init") word then Some Init
+    else if is_word (codes "up") word then Some Up
+    else None
 
 abbrev pub init_of_one : Option ℕ → Option Command
 init_of_one None = None
@@ -90,6 +97,10 @@ abbrev pub installing : Result Registry Status → Result Job Status
 installing (Ok registry) = Ok (makes_files (files_of registry))
 installing (Err why) = Err why
 
+abbrev pub starting : Result Registry Status → Result Job Status
+starting (Ok registry) = Ok (does_lines registry)
+starting (Err why) = Err why
+
 -- a cell that the configuration lacks has no file
 abbrev pub installing_cell : ℕ → Result Registry Status → Result Job Status
 installing_cell cell (Ok registry) = if is_some (cell_of registry cell) then Ok (makes_files (cell ∷ [])) else Err Usage
@@ -102,6 +113,7 @@ job_of (Some Replay) config = Ok (answers_lines plain_start)
 job_of (Some ReplayRegistry) config = replaying (configured config)
 job_of (Some Init) config = installing (configured config)
 job_of (Some (InitCell cell)) config = installing_cell cell (configured config)
+job_of (Some Up) config = starting (configured config)
 
 -- which commands read the configuration, the script, and use the disk
 abbrev pub ReadsConfig : Option Command → Type 0
@@ -110,6 +122,7 @@ ReadsConfig (Some Replay) = ⊥
 ReadsConfig (Some ReplayRegistry) = Unit {0}
 ReadsConfig (Some Init) = Unit {0}
 ReadsConfig (Some (InitCell cell)) = Unit {0}
+ReadsConfig (Some Up) = Unit {0}
 
 abbrev pub ReadsScript : Option Command → Type 0
 ReadsScript None = ⊥
@@ -117,6 +130,17 @@ ReadsScript (Some Replay) = Unit {0}
 ReadsScript (Some ReplayRegistry) = Unit {0}
 ReadsScript (Some Init) = ⊥
 ReadsScript (Some (InitCell cell)) = ⊥
+ReadsScript (Some Up) = Unit {0}
+
+-- which commands answer requests, and which do the lines of a script
+abbrev pub Replays : Option Command → Type 0
+Replays (Some Replay) = Unit {0}
+Replays (Some ReplayRegistry) = Unit {0}
+Replays other = ⊥
+
+abbrev pub IsUp : Option Command → Type 0
+IsUp (Some Up) = Unit {0}
+IsUp other = ⊥
 
 abbrev pub UsesDisk : Option Command → Type 0
 UsesDisk None = ⊥
@@ -124,6 +148,7 @@ UsesDisk (Some Replay) = ⊥
 UsesDisk (Some ReplayRegistry) = ⊥
 UsesDisk (Some Init) = Unit {0}
 UsesDisk (Some (InitCell cell)) = Unit {0}
+UsesDisk (Some Up) = Unit {0}
 
 abbrev pub status_of_config : ConfigFault → Status
 status_of_config Read = ReadFault
@@ -145,11 +170,13 @@ Gives (Err NoRoom) config = Unit {0}
 abbrev pub job_with : Work → Job
 job_with (Answer service) = answers_lines (start_with service)
 job_with (Make files) = makes_files files.items
+job_with (Run registry) = does_lines registry
 
--- a service begins within bounds, and no file is to be made twice
+-- a service begins within bounds, no file is to be made twice, and a configuration is legal
 abbrev pub IsSound : Work → Type 0
 IsSound (Answer service) = KeepsBounds service
 IsSound (Make files) = AreDistinct files.items
+IsSound (Run registry) = IsTrue (is_registry registry)
 
 -- which work is a command's
 abbrev pub IsWorkOf : Command → Work → Type 0
@@ -157,6 +184,7 @@ IsWorkOf Replay (Answer service) = Unit {0}
 IsWorkOf ReplayRegistry (Answer service) = Unit {0}
 IsWorkOf Init (Make files) = Unit {0}
 IsWorkOf (InitCell cell) (Make files) = Unit {0}
+IsWorkOf Up (Run registry) = Unit {0}
 IsWorkOf other work = ⊥
 
 -- which commands name a cell
@@ -165,6 +193,7 @@ NamesCell Replay = ⊥
 NamesCell ReplayRegistry = ⊥
 NamesCell Init = ⊥
 NamesCell (InitCell cell) = Unit {0}
+NamesCell Up = ⊥
 
 -- the run has the work that it should, or the refusal is told
 abbrev pub Configures : Result Work ConfigFault → Result Job Status → Type 0

@@ -15,4 +15,9 @@ pub mod Replay
 pub mod Answering
 pub mod Served
 pub mod Installed
+pub mod Script
+pub mod Told
+pub mod Went
+pub mod Doing
+pub mod Ups
 pub mod Report

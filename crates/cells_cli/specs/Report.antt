@@ -5,32 +5,42 @@ use Rattle.cells_edge.specs.Edge.{IsPrefix}
 use Rattle.cells_edge.specs.Streams.{Writes, WritesAll, SourceFails}
 use Rattle.cells_edge.specs.declared.sink.Sink.{Ghosts as SinkGhosts}
 use Rattle.cells_edge.specs.declared.source.Source.{Ghosts as SourceGhosts}
+use Rattle.cells_edge.specs.declared.wire.Wire.{Ghosts as WireGhosts}
+use Rattle.claim_map.specs.Registry.{Registry}
 use Rattle.disk_journal.specs.declared.disk.Disk.{Ghosts as DiskGhosts}
 use Rattle.cells_cli.specs.Lines.{lines_of}
-use Rattle.cells_cli.specs.Config.{Job, answers_lines, makes_files, command_of, job_of, ReadsConfig, ReadsScript, UsesDisk}
+use Rattle.cells_cli.specs.ScriptLines.{script_lines_of}
+use Rattle.cells_cli.specs.Config.{Job, answers_lines, makes_files, does_lines, command_of, job_of, ReadsConfig, ReadsScript, UsesDisk, IsUp}
 use Rattle.cells_cli.specs.Installed.{IsInstalled, EndsInit, LeavesFiles}
 use Rattle.cells_cli.specs.Served.{IsServed, EndsService}
 use Rattle.cells_cli.specs.Service.{start_with}
 use Rattle.cells_cli.specs.Status.{last_line}
+use Rattle.cells_cli.specs.Ups.{IsUpped, RunsUp, EndsUp}
 use Rattle.cells_cli.specs.declared.command.Command.{Command}
-use Rattle.cells_cli.specs.declared.command.Command.TheVariants.{Replay, ReplayRegistry, Init, InitCell}
+use Rattle.cells_cli.specs.declared.command.Command.TheVariants.{Replay, ReplayRegistry, Init, InitCell, Up}
 use Rattle.cells_cli.specs.declared.service.Service.{Service}
 use Rattle.cells_cli.specs.declared.status.Status.{Status}
-use Rattle.cells_cli.specs.declared.status.Status.TheVariants.{End, Usage, ConfigRegistry, ConfigLong, Script, ReadFault, WriteFault, Memory, DiskFault, FileInUse}
+use Rattle.cells_cli.specs.declared.status.Status.TheVariants.{End, Usage, ConfigRegistry, ConfigLong, Script, ReadFault, WriteFault, Memory, DiskFault, NotAJournal, BadEntry, ConfigLacks, EpochsSpent, FileInUse}
 
 -- What was asked of a run: what it is to do, or the status with which it ends at once, and the lines of its script.
 pub record Asked : Type 0 where
   pub job : Result Job Status
   pub lines : List (List ℕ)
 
+-- the lines of a script: where it is done over the service and the cells, LF drops a CR in front of it
+abbrev pub lines_for : Result Job Status → List ℕ → List (List ℕ)
+lines_for (Ok (does_lines registry)) script = script_lines_of script
+lines_for job script = lines_of script
+
 -- what the words ask, with these bytes of the configuration and of the script
 abbrev pub asked_by : List (String Global) → List ℕ → List ℕ → Asked
-asked_by words config script = record { job = job_of (command_of words) config; lines = lines_of script }
+asked_by words config script = record { job = job_of (command_of words) config; lines = lines_for (job_of (command_of words) config) script }
 
 -- the reports of any run that could write them whole: one that ends at once has its last line alone
 abbrev pub IsWhole : Result Job Status → List (List ℕ) → Status → List ℕ → Type 0
 IsWhole (Ok (answers_lines start)) lines status report = IsServed start lines status report
 IsWhole (Ok (makes_files files)) lines status report = IsInstalled files status report
+IsWhole (Ok (does_lines registry)) lines status report = IsUpped lines status report
 IsWhole (Err why) lines status report = ((status ≡ why) ⊎ ((status ≡ ReadFault) ⊎ (status ≡ Memory))) × (report ≡ last_line status)
 
 -- a front of some such report
@@ -74,6 +84,10 @@ StartsAs job End = IsOk job
 StartsAs job (Script k) = IsOk job
 StartsAs job (FileInUse file size) = IsOk job
 StartsAs job (DiskFault file) = IsOk job
+StartsAs job (NotAJournal file at) = IsOk job
+StartsAs job (BadEntry file index) = IsOk job
+StartsAs job (ConfigLacks cell) = IsOk job
+StartsAs job (EpochsSpent cell) = IsOk job
 StartsAs job Usage = job ≡ Err Usage
 StartsAs job (ConfigRegistry n) = job ≡ Err (ConfigRegistry n)
 StartsAs job ConfigLong = job ≡ Err ConfigLong
@@ -87,6 +101,11 @@ StartsBy a words config status = TellsConfig a words → StartsAs (job_of (comma
 abbrev pub Installs : {A W D : Type 0} → SourceGhosts A → SinkGhosts W → DiskGhosts D → List (String Global) → A → W → W → D → D → Status → Type 0
 Installs a w d words config out out_now disk disk_now status =
     TellsConfig a words → IsTrue d.tells → (files : List ℕ) → job_of (command_of words) (a.left config) ≡ Ok (makes_files files) → LeavesFiles w d files out out_now disk disk_now status
+
+-- the script is done over the service and the cells of the configuration that the words ask for
+abbrev pub RunsUpBy : {A B W D N : Type 0} → SourceGhosts A → SourceGhosts B → SinkGhosts W → DiskGhosts D → WireGhosts N → List (String Global) → A → B → B → W → W → D → D → N → N → Status → Type 0
+RunsUpBy a b w d n words config script script_now out out_now disk disk_now wire wire_now status =
+    TellsConfig a words → (registry : Registry) → job_of (command_of words) (a.left config) ≡ Ok (does_lines registry) → RunsUp b w d n registry script script_now out out_now disk disk_now wire wire_now status
 
 -- the configuration could not be read: no line was answered, and the report is the line that says so
 pub record FailsToStart {A B W : Type 0} (a : SourceGhosts A) (w : SinkGhosts W) (words : List (String Global)) (config config_now : A) (script script_now : B) (out out_now : W) : Type 0 where
@@ -115,6 +134,9 @@ Ends (Some (InitCell cell)) (ConfigRegistry n) = Unit {0}
 Ends (Some (InitCell cell)) ConfigLong = Unit {0}
 Ends (Some (InitCell cell)) ReadFault = Unit {0}
 Ends (Some (InitCell cell)) status = EndsInit status
+Ends (Some Up) (ConfigRegistry n) = Unit {0}
+Ends (Some Up) ConfigLong = Unit {0}
+Ends (Some Up) status = EndsUp status
 
 -- the script is left alone where the run is refused, and by a command that does not answer it
 abbrev pub LeavesScript : Option Command → Status → Type 0
@@ -123,3 +145,7 @@ LeavesScript command status = IsRefused status ⊎ (ReadsScript command → ⊥)
 -- and so is the disk
 abbrev pub LeavesDisk : Option Command → Status → Type 0
 LeavesDisk command status = IsRefused status ⊎ (UsesDisk command → ⊥)
+
+-- and the wire and the clock are, but by a script over the service and the cells
+abbrev pub LeavesWire : Option Command → Status → Type 0
+LeavesWire command status = IsRefused status ⊎ (IsUp command → ⊥)

@@ -1,19 +1,24 @@
 ghost use Rattle.std.specs.Prelude.{◌≡◌, ◌≢◌, ◌≤◌, ◌⊎◌, List, ℕ, IsTrue, IfOk, string_bytes};
+ghost use Rattle.cell_registry.specs.Bounds.{is_registry};
 ghost use Rattle.cells_edge.specs.Streams.{WritesAll, WritesFront, SinkFails, SourceFails};
-ghost use Rattle.cells_cli.specs.Config.{command_of, command_of_one, command_of_two, cell_named as named_by, is_digit as is_digit_byte, is_first_digit as is_first_digit_byte, ReadsConfig, ReadsScript};
+ghost use Rattle.cells_cli.specs.Config.{command_of, command_of_one, command_of_two, cell_named as named_by, is_digit as is_digit_byte, is_first_digit as is_first_digit_byte, ReadsConfig, Replays};
 ghost use Rattle.cells_cli.specs.Files.{AreDistinct};
 ghost use Rattle.cells_cli.specs.Installed.{EndsInit, LeavesFiles, DiskFails};
-ghost use Rattle.cells_cli.specs.Report.{Reports, ReportsService, ReportsFiles, Installs, WritesFrontOf, IsRefused, StartsBy, CouldNotRead, Ends, LeavesScript, LeavesDisk};
+ghost use Rattle.cells_cli.specs.Report.{Reports, ReportsService, ReportsFiles, Installs, WritesFrontOf, IsRefused, StartsBy, CouldNotRead, Ends, LeavesScript, LeavesDisk, LeavesWire, RunsUpBy};
 ghost use Rattle.cells_cli.specs.Served.{EndsAs, EndsService};
 ghost use Rattle.cells_cli.specs.Service.{KeepsBounds};
 ghost use Rattle.cells_cli.specs.Status.{last_line};
+ghost use Rattle.cells_cli.specs.Ups.{EndsUp, RunsUp};
 
 use crate::config::{ConfigFault, Work, work_of};
 use crate::init::{InitStop, make_files};
 use crate::replay::{Stop, replay};
+use crate::up::{UpStop, up};
 use crate::{Service, Status};
+use cell_registry::Registry;
 use cells_base::NoMemory;
-use cells_edge::{Sink, SinkFailed, Source, write_all};
+use cells_edge::{Clock, Sink, SinkFailed, Source, Wire, write_all};
+use cells_world::{ClusterError, Damage};
 use disk_journal::Disk;
 use std::alloc::Global;
 
@@ -28,6 +33,8 @@ pub enum Command {
     Init,
     /// `init ID`: the file of this cell alone is made.
     InitCell { cell: u16 },
+    /// `up`: the lines of a script are done over the service and the cells of the configuration.
+    Up,
 }
 
 impl From<Stop> for Status {
@@ -76,6 +83,41 @@ impl From<ConfigFault> for Status {
     }
 }
 
+impl From<ClusterError> for Status {
+    ghost use Rattle.cells_cli.specs.Doing.{status_of_cluster};
+
+    ghost from_gives = { λ error status. status ≡ status_of_cluster error };
+
+    fn from(error: ClusterError) -> Self {
+        match error {
+            ClusterError::DiskFailed { file } => Status::DiskFault { file },
+            ClusterError::Memory => Status::Memory,
+            ClusterError::Damaged { file, fault } => match fault {
+                Damage::NotAJournal { at } => Status::NotAJournal { file, at },
+                Damage::BadEntry { index } => Status::BadEntry { file, index },
+                Damage::ConfigLacks { cell } => Status::ConfigLacks { cell },
+                Damage::EpochsSpent => Status::EpochsSpent { cell: file },
+            },
+        }
+    }
+}
+
+impl From<UpStop> for Status {
+    ghost use Rattle.cells_cli.specs.Doing.{status_of};
+
+    ghost from_gives = { λ stop status. status ≡ status_of stop };
+
+    fn from(stop: UpStop) -> Self {
+        match stop {
+            UpStop::Script { line } => Status::Script { line },
+            UpStop::ReadFault => Status::ReadFault,
+            UpStop::WriteFault => Status::WriteFault,
+            UpStop::Memory => Status::Memory,
+            UpStop::Cluster { error } => Status::from(error),
+        }
+    }
+}
+
 fn is_digit(byte: u8) -> bool
     ensures { result ≡ is_digit_byte byte }
 {
@@ -111,6 +153,7 @@ fn command_of_one(word: &String) -> Option<Command>
     match word.as_str() {
         "replay" => Some(Command::Replay),
         "init" => Some(Command::Init),
+        "up" => Some(Command::Up),
         _ => None,
     }
 }
@@ -213,6 +256,31 @@ fn install<W: Sink, D: Disk>(alloc: Global, files: &[u16], out: &mut W, disk: &m
     }
 }
 
+// The run of a script over the service and the cells.
+fn operate<B: Source, W: Sink, D: Disk, N: Wire, C: Clock>(
+    alloc: Global,
+    registry: Registry,
+    script: &mut B,
+    out: &mut W,
+    disk: &mut D,
+    wire: &mut N,
+    clock: &mut C,
+) -> Status
+    requires { IsTrue (is_registry registry) }
+    ensures runs { RunsUp B.Source W.Sink D.Disk N.Wire registry script.old script.new out.old out.new
+        disk.old disk.new wire.old wire.new result }
+    ensures read { result ≡ Status.ReadFault → SourceFails B.Source script.old script.new }
+    ensures write { result ≡ Status.WriteFault → SinkFails W.Sink out.old out.new }
+    ensures disk { DiskFails D.Disk disk.old disk.new result }
+    ensures statuses { EndsUp result }
+{
+    match up(alloc, registry, script, out, disk, wire, clock) {
+        Ok(()) => finish(alloc, Status::End, out),
+        Err(UpStop::WriteFault) => Status::WriteFault,
+        Err(stop) => finish(alloc, Status::from(stop), out),
+    }
+}
+
 /// Runs the command that the words say, and answers how it ended; [`Status::code`] is the exit code.
 ///
 /// `replay` answers each line of the script that is not empty by one line: the reply that is due to
@@ -224,13 +292,19 @@ fn install<W: Sink, D: Disk>(alloc: Global, files: &[u16], out: &mut W, disk: &m
 /// `init` makes the files of the service and of all cells of the configuration, `init ID` that of one
 /// cell: empty journals. All are asked for their sizes first, and where one is in use nothing is done.
 /// It says of each file that it was made, as soon as it was.
-pub fn run<A: Source, B: Source, W: Sink, D: Disk>(
+///
+/// `up` opens the service and the cells of the configuration from their files, and does the lines of the script
+/// in turn, over the wire. Of each line it writes its notes, its transitions and its answer. A line that is
+/// refused ends the run, and so does a fault of the disk or a file that shows damage.
+pub fn run<A: Source, B: Source, W: Sink, D: Disk, N: Wire, C: Clock>(
     alloc: Global,
     words: &[String],
     config: &mut A,
     script: &mut B,
     out: &mut W,
     disk: &mut D,
+    wire: &mut N,
+    clock: &mut C,
 ) -> Status
     // what was written
     ensures report { Reports A.Source B.Source W.Sink words.now config.old script.old out.old out.new result }
@@ -239,9 +313,13 @@ pub fn run<A: Source, B: Source, W: Sink, D: Disk>(
     // what was made
     ensures made { Installs A.Source W.Sink D.Disk words.now config.old out.old out.new disk.old disk.new result }
 
+    // what was done, traced and left
+    ensures up { RunsUpBy A.Source B.Source W.Sink D.Disk N.Wire words.now config.old script.old script.new
+        out.old out.new disk.old disk.new wire.old wire.new result }
+
     // when each status comes; want of memory is free
     ensures start { StartsBy A.Source words.now config.old result }
-    ensures lines { ReadsScript (command_of words.now) → IsTrue B.tells →
+    ensures lines { Replays (command_of words.now) → IsTrue B.tells →
         EndsAs (B.left script.old) (B.left script.new) result }
     ensures read { result ≡ Status.ReadFault → CouldNotRead A.Source B.Source W.Sink words.now config.old config.new
         script.old script.new out.old out.new }
@@ -253,6 +331,8 @@ pub fn run<A: Source, B: Source, W: Sink, D: Disk>(
     ensures script_unread { LeavesScript (command_of words.now) result → script.new ≡ script.old }
     ensures config_unread { (ReadsConfig (command_of words.now) → ⊥) → config.new ≡ config.old }
     ensures disk_unused { LeavesDisk (command_of words.now) result → disk.new ≡ disk.old }
+    ensures wire_unused { LeavesWire (command_of words.now) result → wire.new ≡ wire.old }
+    ensures clock_unused { LeavesWire (command_of words.now) result → clock.new ≡ clock.old }
 {
     let Some(command) = command_of(words) else {
         return finish(alloc, Status::Usage, out);
@@ -260,6 +340,7 @@ pub fn run<A: Source, B: Source, W: Sink, D: Disk>(
     match work_of(alloc, command, config) {
         Ok(Work::Answer(service)) => serve(alloc, service, script, out),
         Ok(Work::Make(files)) => install(alloc, &files, out, disk),
+        Ok(Work::Run(registry)) => operate(alloc, registry, script, out, disk, wire, clock),
         Err(fault) => finish(alloc, Status::from(fault), out),
     }
 }

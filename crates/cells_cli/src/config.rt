@@ -2,7 +2,7 @@
 ghost use Rattle.std.specs.Prelude.{◌≡◌, ◌≤◌, ◌<◌, [], ◌∷◌, ℕ, IsTrue, length, IfOk, Ok, Err, Some, ◌⊎◌, IsOk};
 ghost use Rattle.cells_base.specs.Causes.{Rose};
 ghost use Rattle.cell_registry.specs.Bounds.{is_registry};
-ghost use Rattle.cells_cli.specs.Config.{configured, Gives, ReadsConfig, Configures, ConfiguresAs, IsSound, IsWorkOf, NamesCell, files_of, replaying, installing, installing_cell};
+ghost use Rattle.cells_cli.specs.Config.{configured, Gives, ReadsConfig, Configures, ConfiguresAs, IsSound, IsWorkOf, NamesCell, files_of, replaying, installing, installing_cell, starting};
 ghost use Rattle.cells_cli.specs.declared.config.ConfigFault.TheVariants.{Read as ReadFailed, Memory as NoRoom};
 
 use crate::Service;
@@ -118,6 +118,8 @@ pub enum Work {
     Answer(Service),
     /// It makes these files, in this order.
     Make(Vec<u16>),
+    /// It does the lines of its script over the service and the cells of this configuration.
+    Run(Registry),
 }
 
 fn replaying<A: Source>(alloc: Global, config: &mut A) -> Result<Work, ConfigFault>
@@ -155,6 +157,17 @@ fn installing_cell<A: Source>(alloc: Global, cell: u16, config: &mut A) -> Resul
     Ok(Work::Make(file_of(alloc, cell)?))
 }
 
+fn starting<A: Source>(alloc: Global, config: &mut A) -> Result<Work, ConfigFault>
+    ensures told { IsTrue A.tells → Configures result (starting (configured (A.left config.old))) }
+    ensures read { result ≡ Err ConfigFault.Read → Rose (A.faults config.old) (A.faults config.new) }
+    ensures cells { result ≡ Err ConfigFault.NoSuchCell → ⊥ }
+    ensures sound { IfOk result IsSound }
+    ensures work { IfOk result (IsWorkOf Command.Up) }
+{
+    let registry = configured(alloc, config)?;
+    Ok(Work::Run(registry))
+}
+
 /// The work of a command.
 pub fn work_of<A: Source>(
     alloc: Global,
@@ -175,5 +188,6 @@ pub fn work_of<A: Source>(
         Command::ReplayRegistry => replaying(alloc, config),
         Command::Init => installing(alloc, config),
         Command::InitCell { cell } => installing_cell(alloc, cell, config),
+        Command::Up => starting(alloc, config),
     }
 }

@@ -1,7 +1,8 @@
 //! The program as a library: the commands, what they read and what they write.
 //!
 //! ```text
-//! let status = run(alloc, &words, &mut config, &mut script, &mut out, &mut disk);      // words: ["replay"]
+//! // words: ["up"]
+//! let status = run(alloc, &words, &mut config, &mut script, &mut out, &mut disk, &mut wire, &mut clock);
 //! exit(status.code())
 //! ```
 //!
@@ -15,10 +16,16 @@
 //! is in use. At its end each of them is a journal without a body in whatever a crash leaves, and every other
 //! file is as it was (`specs/Files`, `specs/Installed`).
 //!
+//! `up` opens the service and the cells from their files, and does the lines of a script. What is told of each line
+//! stands in `specs/Told`, which lines are done in `specs/Script`, and what the whole comes to in `specs/Ups`: where the
+//! disk does not fail, the transitions that are told are a run of legal steps from the claim map that the files stood for,
+//! and at the end the files stand for the claim map behind them.
+//!
 //! The lines come as `specs/Lines` defines them, in whatever pieces the source gives its bytes, and those of
 //! a script as `specs/ScriptLines` does: there LF drops a CR in front of it.
 //!
-//! It stands on `message_json`, `claim_service`, `disk_journal`, `cell_registry` and `cells_edge`. The caller of
+//! It stands on `cells_world` and `cells_script`, and on `message_json`, `claim_service`, `disk_journal`, `cell_registry` and
+//! `cells_edge`. The caller of
 //! [`run`] keeps nothing; that of [`finish`] gives a status which is no fault of writing.
 #![tactic(auto)]
 
@@ -26,14 +33,20 @@ mod command;
 mod config;
 mod init;
 mod lines;
+mod reading;
 mod replay;
+mod report;
 #[cfg(test)]
 mod run_tests;
 mod script_lines;
 mod service;
 mod status;
+mod tellable;
 #[cfg(test)]
 mod tests;
+mod up;
+#[cfg(test)]
+mod up_tests;
 
 pub use command::{Command, finish, run};
 pub use config::{CONFIG_BYTES, ConfigFault};

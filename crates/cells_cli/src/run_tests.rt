@@ -1,6 +1,6 @@
 use crate::*;
 use cells_base::NoMemory;
-use cells_edge::{BytesSink, BytesSource};
+use cells_edge::{BytesSink, BytesSource, FixedClock, MemoryWire};
 use claim_types::Text;
 use disk_journal::{Disk, FailingCall, MemoryDisk};
 use std::alloc::Global;
@@ -110,6 +110,11 @@ fn disk_of(alloc: Global) -> Result<MemoryDisk, NoMemory> {
     MemoryDisk::new(alloc, &NODES, 64, Vec::new(alloc))
 }
 
+// A wire that nothing befalls, and a clock.
+fn ends_of(alloc: Global) -> (MemoryWire, FixedClock) {
+    (MemoryWire::new(alloc, Vec::new(alloc)), FixedClock::new(0))
+}
+
 // How a run ends whose script comes in pieces of at most so many bytes, and what it writes.
 fn ran(
     alloc: Global,
@@ -123,7 +128,17 @@ fn ran(
     let mut script = source(alloc, script)?.in_pieces(most as usize + 1);
     let mut out = BytesSink::new(alloc, 4096)?;
     let mut disk = disk_of(alloc)?;
-    let status = run(alloc, &words, &mut config, &mut script, &mut out, &mut disk);
+    let (mut wire, mut clock) = ends_of(alloc);
+    let status = run(
+        alloc,
+        &words,
+        &mut config,
+        &mut script,
+        &mut out,
+        &mut disk,
+        &mut wire,
+        &mut clock,
+    );
     Ok((status, out))
 }
 
@@ -246,6 +261,7 @@ fn names_a_fault_of_reading(rt: HostRuntime) -> Result<(), Fail> {
         let mut script = source(rt.alloc(), THREE)?.failing_after(script_reads);
         let mut out = BytesSink::new(rt.alloc(), 4096)?;
         let mut disk = disk_of(rt.alloc())?;
+        let (mut wire, mut clock) = ends_of(rt.alloc());
         let status = run(
             rt.alloc(),
             &words,
@@ -253,6 +269,8 @@ fn names_a_fault_of_reading(rt: HostRuntime) -> Result<(), Fail> {
             &mut script,
             &mut out,
             &mut disk,
+            &mut wire,
+            &mut clock,
         );
         assert_eq!(rt; status, Status::ReadFault);
         assert_eq!(rt; status.code(), 5);
@@ -271,6 +289,7 @@ fn leaves_a_front_where_writing_fails(rt: HostRuntime) -> Result<(), Fail> {
             .in_pieces(10)
             .failing_after(passes);
         let mut disk = disk_of(rt.alloc())?;
+        let (mut wire, mut clock) = ends_of(rt.alloc());
         let status = run(
             rt.alloc(),
             &words,
@@ -278,6 +297,8 @@ fn leaves_a_front_where_writing_fails(rt: HostRuntime) -> Result<(), Fail> {
             &mut script,
             &mut out,
             &mut disk,
+            &mut wire,
+            &mut clock,
         );
         assert_eq!(rt; status, Status::WriteFault);
         assert_eq!(rt; status.code(), 6);
@@ -303,7 +324,17 @@ fn installed(
     let mut config = source(alloc, CELLS)?;
     let mut script = source(alloc, THREE)?;
     let mut out = BytesSink::new(alloc, 4096)?;
-    let status = run(alloc, &words, &mut config, &mut script, &mut out, disk);
+    let (mut wire, mut clock) = ends_of(alloc);
+    let status = run(
+        alloc,
+        &words,
+        &mut config,
+        &mut script,
+        &mut out,
+        disk,
+        &mut wire,
+        &mut clock,
+    );
     Ok((status, out))
 }
 

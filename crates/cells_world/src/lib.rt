@@ -12,7 +12,8 @@
 //! first of these events lead to. A world in order stays in order by the law of `claim_laws`, so the trace is a run of legal
 //! steps. A packet that was not sent here, or whose leg or bytes are not those of its tag, is dropped.
 //!
-//! No clause says yet which answer a line comes to, nor what stays of a line that came to an end by a fault or for want of memory.
+//! Which answer a line comes to is shown by tests, and by no clause yet; nor is it told what stays of a line that came to an end
+//! by a fault or for want of memory.
 #![tactic(auto)]
 
 mod cluster;

@@ -1,5 +1,5 @@
 use Rattle.std.proofs.Common.{◌≡◌, ◌⊎◌, ◌++◌, IsTrue, Some, Ok, Err, List, ℕ, inl, subst, sym, ap, ◌∙◌, Option, Result}
-use Rattle.cells_cli.specs.Config.{Job, job_of, job_with, answers_lines, makes_files, command_of, IsSound, ReadsConfig, Configures, status_of_config}
+use Rattle.cells_cli.specs.Config.{Job, job_of, job_with, answers_lines, does_lines, makes_files, command_of, IsSound, ReadsConfig, Configures, status_of_config}
 use Rattle.cells_cli.specs.Lines.{lines_of}
 use Rattle.cells_cli.specs.declared.command.Command.{Command}
 use Rattle.cells_cli.specs.declared.status.Status.{Status}
@@ -8,8 +8,12 @@ use Rattle.cells_cli.specs.Files.{AreDistinct}
 use Rattle.cells_cli.specs.Installed.{LeavesFiles}
 use Rattle.cells_cli.specs.Service.{start_with}
 use Rattle.cells_cli.specs.declared.config.Work.{Work}
-use Rattle.cells_cli.specs.Report.{asked_by, IsReport}
+use Rattle.cells_cli.specs.Report.{asked_by, lines_for, IsReport}
 use Rattle.cells_cli.proofs.Reported.{EndsWith, at_once, config_ends, config_other}
+use Rattle.claim_map.specs.Registry.{Registry}
+use Rattle.cells_cli.specs.Report.{WritesFrontOf}
+use Rattle.cells_cli.specs.Ups.{RunsUp}
+use Rattle.cells_cli.proofs.Reporting.{is_report, config_fails}
 use Rattle.cells_cli.proofs.command.run.Goals as goal
 
 same_files : (a b : List ℕ) (job : Result Job Status) → job ≡ Ok (makes_files a) → job ≡ Ok (makes_files b) → a ≡ b
@@ -40,7 +44,7 @@ returns-in-Ok-Answer-clause-report g c a b w =
     let reads : ReadsConfig (Some c.in-Some.command) → IsTrue g.A.Source.tells = λ h. a (subst ReadsConfig is h) in
     let own = subst (λ (work : Work). job_of (Some c.in-Some.command) config ≡ Ok (job_with work)) c.in-Ok-Answer.field-0-is (c.in-Ok-Answer.ensures.told reads) in
     let told = subst (λ (command : Option Command). job_of command config ≡ Ok (answers_lines (start_with c.in-Ok-Answer.service))) is own in
-    subst (λ (job : Result Job Status). (report : List ℕ) × IsReport (record { job = job; lines = lines_of (g.B.Source.left c.args.script.now) }) c.serve.result report × (g.W.Sink.written c.serve.new.out ≡ g.W.Sink.written c.args.out.now ++ report)) (sym told) (c.serve.ensures.report b w)
+    subst (λ (job : Result Job Status). (report : List ℕ) × IsReport (record { job = job; lines = lines_for job (g.B.Source.left c.args.script.now) }) c.serve.result report × (g.W.Sink.written c.serve.new.out ≡ g.W.Sink.written c.args.out.now ++ report)) (sym told) (c.serve.ensures.report b w)
 
 pub install-requires : goal.install-requires
 install-requires g c =
@@ -56,7 +60,7 @@ returns-in-Ok-Make-clause-report g c a b w =
     let told = subst (λ (command : Option Command). job_of command config ≡ Ok (makes_files c.in-Ok-Make.files.items)) is own in
     let same : job_of (command_of c.args.words.now) config ≡ Ok (makes_files c.deref.result.now) = subst (λ (files : List ℕ). job_of (command_of c.args.words.now) config ≡ Ok (makes_files files)) (sym c.deref.ensures.value) told in
     let lines = lines_of (g.B.Source.left c.args.script.now) in
-    subst (λ (job : Result Job Status). (report : List ℕ) × IsReport (record { job = job; lines = lines }) c.install.result report × (g.W.Sink.written c.install.new.out ≡ g.W.Sink.written c.args.out.now ++ report)) (sym same) (c.install.ensures.report lines w)
+    subst (λ (job : Result Job Status). (report : List ℕ) × IsReport (record { job = job; lines = lines_for job (g.B.Source.left c.args.script.now) }) c.install.result report × (g.W.Sink.written c.install.new.out ≡ g.W.Sink.written c.args.out.now ++ report)) (sym same) (c.install.ensures.report lines w)
 
 pub returns-in-Ok-Make-clause-made : goal.returns-in-Ok-Make-clause-made
 returns-in-Ok-Make-clause-made g c a t files asked =
@@ -67,3 +71,56 @@ returns-in-Ok-Make-clause-made g c a t files asked =
     let told = subst (λ (command : Option Command). job_of command config ≡ Ok (makes_files c.in-Ok-Make.files.items)) is own in
     let same : c.deref.result.now ≡ files = c.deref.ensures.value ∙ same_files c.in-Ok-Make.files.items files (job_of (command_of c.args.words.now) config) told asked in
     subst (λ (fs : List ℕ). LeavesFiles g.W.Sink g.D.Disk fs c.args.out.now c.install.new.out c.args.disk.now c.install.new.disk c.install.result) same (c.install.ensures.leaves t)
+
+same_registry : (a b : Registry) (job : Result Job Status) → job ≡ Ok (does_lines a) → job ≡ Ok (does_lines b) → a ≡ b
+same_registry a b job h k = cc
+
+not_both : (a : Registry) (files : List ℕ) (job : Result Job Status) → job ≡ Ok (does_lines a) → job ≡ Ok (makes_files files) → ⊥
+not_both a files job h k = cc
+
+pub operate-requires : goal.operate-requires
+operate-requires g c = subst (λ (work : Work). IsSound work) c.in-Ok-Run.field-0-is c.in-Ok-Run.ensures.sound
+
+pub returns-in-Ok-Run-clause-report : goal.returns-in-Ok-Run-clause-report
+returns-in-Ok-Run-clause-report g c a b w =
+    let is = sym c.in-Some.is ∙ c.command_of.ensures in
+    let config = g.A.Source.left c.args.config.now in
+    let reads : ReadsConfig (Some c.in-Some.command) → IsTrue g.A.Source.tells = λ h. a (subst ReadsConfig is h) in
+    let own = subst (λ (work : Work). job_of (Some c.in-Some.command) config ≡ Ok (job_with work)) c.in-Ok-Run.field-0-is (c.in-Ok-Run.ensures.told reads) in
+    let told = subst (λ (command : Option Command). job_of command config ≡ Ok (does_lines c.in-Ok-Run.registry)) is own in
+    let script = g.B.Source.left c.args.script.now in
+    let runs = c.operate.ensures.runs in
+    let p = runs.report w in
+    subst (λ (job : Result Job Status). (report : List ℕ) × IsReport (record { job = job; lines = lines_for job script }) c.operate.result report × (g.W.Sink.written c.operate.new.out ≡ g.W.Sink.written c.args.out.now ++ report)) (sym told)
+    (p.0, is_report c.in-Ok-Run.registry script runs.told g.B.Source.tells b c.operate.result p.0 (runs.lines b) p.1, p.2)
+
+pub returns-in-Ok-Run-clause-made : goal.returns-in-Ok-Run-clause-made
+returns-in-Ok-Run-clause-made g c a t files asked =
+    let is = sym c.in-Some.is ∙ c.command_of.ensures in
+    let config = g.A.Source.left c.args.config.now in
+    let reads : ReadsConfig (Some c.in-Some.command) → IsTrue g.A.Source.tells = λ h. a (subst ReadsConfig is h) in
+    let own = subst (λ (work : Work). job_of (Some c.in-Some.command) config ≡ Ok (job_with work)) c.in-Ok-Run.field-0-is (c.in-Ok-Run.ensures.told reads) in
+    let told = subst (λ (command : Option Command). job_of command config ≡ Ok (does_lines c.in-Ok-Run.registry)) is own in
+    absurd (not_both c.in-Ok-Run.registry files (job_of (command_of c.args.words.now) config) told asked)
+
+pub returns-in-Ok-Run-clause-up : goal.returns-in-Ok-Run-clause-up
+returns-in-Ok-Run-clause-up g c a registry asked =
+    let is = sym c.in-Some.is ∙ c.command_of.ensures in
+    let config = g.A.Source.left c.args.config.now in
+    let reads : ReadsConfig (Some c.in-Some.command) → IsTrue g.A.Source.tells = λ h. a (subst ReadsConfig is h) in
+    let own = subst (λ (work : Work). job_of (Some c.in-Some.command) config ≡ Ok (job_with work)) c.in-Ok-Run.field-0-is (c.in-Ok-Run.ensures.told reads) in
+    let told = subst (λ (command : Option Command). job_of command config ≡ Ok (does_lines c.in-Ok-Run.registry)) is own in
+    subst (λ (r : Registry). RunsUp g.B.Source g.W.Sink g.D.Disk g.N.Wire r c.args.script.now c.operate.new.script c.args.out.now c.operate.new.out c.args.disk.now c.operate.new.disk c.args.wire.now c.operate.new.wire c.operate.result)
+    (same_registry c.in-Ok-Run.registry registry (job_of (command_of c.args.words.now) config) told asked) c.operate.ensures.runs
+
+pub returns-in-Err-clause-up : goal.returns-in-Err-clause-up
+returns-in-Err-clause-up g c a registry asked =
+    let fault = c.in-Err.fault in
+    let is = sym c.in-Some.is ∙ c.command_of.ensures in
+    let config = g.A.Source.left c.args.config.now in
+    let reads : ReadsConfig (Some c.in-Some.command) → IsTrue g.A.Source.tells = λ h. a (subst ReadsConfig is h) in
+    let told = subst (λ (command : Option Command). Configures (Err fault) (job_of command config)) is (c.in-Err.ensures.told reads) in
+    let own = c.from.ensures in
+    let ends = subst (λ (s : Status). EndsWith s c.finish-in-Err.result) own c.finish-in-Err.ensures.ends in
+    config_fails g.B.Source g.W.Sink g.D.Disk g.N.Wire registry c.args.script.now c.args.out.now c.finish-in-Err.new.out c.args.disk.now c.args.wire.now fault (job_of (command_of c.args.words.now) config) told asked
+    c.finish-in-Err.result ends (λ h. c.finish-in-Err.ensures.told h) (λ h. subst (λ (s : Status). WritesFrontOf g.W.Sink c.args.out.now c.finish-in-Err.new.out s) own (c.finish-in-Err.ensures.part h))

@@ -1,0 +1,263 @@
+-- The report of a run with a script, from what was told and how its last line was written.
+use Rattle.std.proofs.Common.{◌≡◌, ◌≢◌, ◌⊎◌, inl, inr, ℕ, Bool, IsTrue, List, [], ◌++◌, Option, Result, Ok, Err, append_assoc, refl, sym, ◌∙◌, ap, subst}
+use Rattle.std.proofs.lemmas.List.{append-nil}
+use Rattle.cells_edge.specs.Streams.{SourceFails, WritesAll}
+use Rattle.cells_edge.specs.declared.sink.Sink.{Ghosts as SinkGhosts}
+use Rattle.cells_edge.specs.declared.source.Source.{Ghosts as SourceGhosts}
+use Rattle.cells_edge.specs.declared.wire.Wire.{Ghosts as WireGhosts}
+use Rattle.disk_journal.specs.declared.disk.Disk.{Ghosts as DiskGhosts}
+use Rattle.claim_map.specs.Registry.{Registry}
+use Rattle.cells_world.specs.declared.fault.ClusterError.TheVariants.{DiskFailed, Memory as NoRoom, Damaged}
+use Rattle.cells_world.specs.declared.fault.Damage.TheVariants.{NotAJournal as NoJournal, BadEntry as RefusedEntry, ConfigLacks as LacksCell, EpochsSpent as SpentEpochs}
+use Rattle.cells_cli.specs.Config.{Job, Configures, does_lines, status_of_config}
+use Rattle.cells_cli.specs.declared.config.ConfigFault.{ConfigFault}
+use Rattle.cells_cli.specs.declared.config.ConfigFault.TheVariants.{Read, Long, Refused, NoSuchCell, Memory as NoSpace}
+use Rattle.cells_cli.specs.Doing.{AreFirst, AreTold, HasItsCause, IsWritten, status_of}
+use Rattle.cells_cli.specs.Installed.{DiskFails}
+use Rattle.cells_cli.specs.ScriptLines.{script_lines_of}
+use Rattle.cells_cli.specs.Report.{IsReport, WritesFrontOf}
+use Rattle.cells_cli.specs.Script.{Numbered, line_refused, lines_done}
+use Rattle.cells_cli.specs.Status.{last_line}
+use Rattle.cells_cli.specs.Told.{Telling, numbered, numbered_broken, telling_text}
+use Rattle.cells_cli.specs.Ups.{EndsUp, EndsUpAt, IsDamaged, IsReportOf, IsUpped, OpensSo, RunsUp, Traces, Ups, WhereOpened, nothing_told}
+use Rattle.cells_cli.specs.declared.status.Status.{Status}
+use Rattle.cells_cli.specs.declared.status.Status.TheVariants.{End, Script, ReadFault, WriteFault, Memory}
+use Rattle.cells_cli.specs.declared.up.UpStop.{UpStop}
+use Rattle.cells_cli.specs.declared.up.UpStop.TheVariants.{Script as ScriptStop, ReadFault as ReadStop, WriteFault as WriteStop, Memory as MemoryStop, Cluster as ClusterStop}
+use Rattle.cells_cli.proofs.Reported.{EndsWith}
+
+-- whichever lines were told of, they are some first ones
+to_first : (wanted : List Numbered) (refused : Option ℕ) (told : Telling) (status : Status) → AreTold wanted refused told status → AreFirst (numbered told.items ++ numbered_broken told.broken) wanted
+to_first wanted refused told End h = ([], ap (λ br. (numbered told.items ++ numbered_broken br) ++ []) h.1 ∙ append-nil (numbered told.items ++ []) ∙ append-nil (numbered told.items) ∙ h.2)
+to_first wanted refused told (Script line) h = ([], ap (λ br. (numbered told.items ++ numbered_broken br) ++ []) h.1 ∙ append-nil (numbered told.items ++ []) ∙ append-nil (numbered told.items) ∙ h.2)
+to_first wanted refused told ReadFault h = subst (λ (l : List Numbered). AreFirst l wanted) (sym (ap (λ br. numbered told.items ++ numbered_broken br) h.0 ∙ append-nil (numbered told.items))) h.1
+to_first wanted refused told other h = h
+
+all_written : {W : Type 0} (w : SinkGhosts W) (told : Telling) (out out_now : W) (status : Status) → status ≢ WriteFault → IsWritten w told out out_now status → WritesAll w out out_now (telling_text told)
+all_written w told out out_now WriteFault apart h = absurd (apart refl)
+all_written w told out out_now other apart h = h
+
+whole_report : (tells : Bool) (wanted : List Numbered) (refused : Option ℕ) (told : Telling) (status : Status) (report : List ℕ) → status ≢ WriteFault → report ≡ telling_text told ++ last_line status → IsReportOf tells wanted refused told status report
+whole_report tells wanted refused told WriteFault report apart h = absurd (apart refl)
+whole_report tells wanted refused told other report apart h = h
+
+module _ {D N : Type 0} (d : DiskGhosts D) (n : WireGhosts N) (registry : Registry) (world : Rattle.claim_laws.specs.World.World) (told : Telling) (disk_now : D) (wire wire_now : N) where
+  -- of a run that ended for want of memory, or at a fault of writing, less is said
+  less_in_memory : (status : Status) → Traces d n registry world told.items disk_now wire wire_now status → Traces d n registry world told.items disk_now wire wire_now Memory
+  less_in_memory status t = record { opened = t.opened; again = t.again; events = t.events; of_lines = t.of_lines; trace = t.trace; legal = t.legal; replayed = t.replayed; handed = λ h. absurd h; stands = λ h. absurd h }
+
+  less_in_writing : (status : Status) → Traces d n registry world told.items disk_now wire wire_now status → Traces d n registry world told.items disk_now wire wire_now WriteFault
+  less_in_writing status t = record { opened = t.opened; again = t.again; events = t.events; of_lines = t.of_lines; trace = t.trace; legal = t.legal; replayed = t.replayed; handed = λ h. absurd h; stands = λ h. absurd h }
+
+  either : (status : Status) (T U : Type 0) → (T → U) → WhereOpened status told T → (told ≡ nothing_told) ⊎ U
+  either End T U f h = inr (f h)
+  either (Script line) T U f h = inr (f h)
+  either other T U f h = elim h [ inl none ↦ inl none | inr t ↦ inr (f t) ]
+
+module _ {S W D N : Type 0} (s : SourceGhosts S) (w : SinkGhosts W) (d : DiskGhosts D) (n : WireGhosts N) (registry : Registry) (script script_now : S) (out mid now : W) (disk disk_now : D) (wire wire_now : N) where
+  abbrev wanted : List Numbered
+  wanted = lines_done 0 (script_lines_of (s.left script))
+
+  abbrev refused : Option ℕ
+  refused = line_refused 0 (script_lines_of (s.left script))
+
+  module _ (own : Status) (apart : own ≢ WriteFault) (ups : Ups s w d n registry script out mid disk disk_now wire wire_now own) (read : IsTrue s.tells → EndsUpAt (s.left script) (s.left script_now) own) (damage : IsDamaged d registry disk disk_now own) where
+    before : WritesAll w out mid (telling_text ups.told)
+    before = all_written w ups.told out mid own apart ups.written
+
+    behind : (line : List ℕ) → WritesAll w mid now line → WritesAll w out now (telling_text ups.told ++ line)
+    behind line all t = all t ∙ ap (λ (x : List ℕ). x ++ line) (before t) ∙ append_assoc (w.written out) (telling_text ups.told) line
+
+    abbrev Runs : Status → Type 0
+    Runs status = RunsUp s w d n registry script script_now out now disk disk_now wire wire_now status
+
+    ends_own : WritesAll w mid now (last_line own) → Runs own
+    ends_own all = record {
+      told = ups.told;
+      lines = ups.lines;
+      report = λ t. (telling_text ups.told ++ last_line own, whole_report s.tells wanted refused ups.told own (telling_text ups.told ++ last_line own) apart refl, behind (last_line own) all t);
+      traces = ups.traces;
+      read = read;
+      damage = damage;
+    }
+
+    ends_memory : WritesAll w mid now (last_line Memory) → Runs Memory
+    ends_memory all = record {
+      told = ups.told;
+      lines = λ t. to_first wanted refused ups.told own (ups.lines t);
+      report = λ t. (telling_text ups.told ++ last_line Memory, refl, behind (last_line Memory) all t);
+      traces = λ tells still start world order configured is_of. either d n registry world ups.told disk_now wire wire_now own _ _ (less_in_memory d n registry world ups.told disk_now wire wire_now own) (ups.traces tells still start world order configured is_of);
+      read = λ t. tt;
+      damage = tt;
+    }
+
+    last_apart : (last : Status) → (last ≡ own) ⊎ (last ≡ Memory) → last ≢ WriteFault
+    last_apart last which h = elim which [ inl e ↦ apart (sym e ∙ h) | inr e ↦ (let no : Memory ≡ WriteFault = sym e ∙ h in absurd cc) ]
+
+    last_told : (last : Status) → (last ≡ own) ⊎ (last ≡ Memory) → IsTrue s.tells → AreTold wanted refused ups.told last
+    last_told last which t = elim which [
+      | inl e ↦ subst (AreTold wanted refused ups.told) (sym e) (ups.lines t)
+      | inr e ↦ subst (AreTold wanted refused ups.told) (sym e) (to_first wanted refused ups.told own (ups.lines t))
+    ]
+
+    ends_writing : WritesFrontOf w mid now own → Runs WriteFault
+    ends_writing part = record {
+      told = ups.told;
+      lines = λ t. to_first wanted refused ups.told own (ups.lines t);
+      report = λ t. (
+          let p = part t in (
+            telling_text ups.told ++ p.0,
+            (p.1.0, last_apart p.1.0 p.1.1, (λ t. last_told p.1.0 p.1.1 t), (p.1.2.0, ap (λ (x : List ℕ). telling_text ups.told ++ x) p.1.2.1 ∙ sym (append_assoc (telling_text ups.told) p.0 p.1.2.0))),
+            p.2 ∙ ap (λ (x : List ℕ). x ++ p.0) (before t) ∙ append_assoc (w.written out) (telling_text ups.told) p.0,
+          ));
+      traces = λ tells still start world order configured is_of. either d n registry world ups.told disk_now wire wire_now own _ _ (less_in_writing d n registry world ups.told disk_now wire wire_now own) (ups.traces tells still start world order configured is_of);
+      read = λ t. tt;
+      damage = tt;
+    }
+
+    pub finished : (result : Status) → EndsWith own result → (result ≢ WriteFault → WritesAll w mid now (last_line result)) → (result ≡ WriteFault → WritesFrontOf w mid now own) → Runs result
+    finished result ends told part = elim ends [
+      | inl e ↦ subst Runs (sym e) (ends_own (subst (λ st. WritesAll w mid now (last_line st)) e (told (λ h. apart (sym e ∙ h)))))
+      | inr (inl e) ↦ subst Runs (sym e) (ends_memory (subst (λ st. WritesAll w mid now (last_line st)) e (told (λ h. (let no : Memory ≡ WriteFault = sym e ∙ h in cc)))))
+      | inr (inr e) ↦ subst Runs (sym e) (ends_writing (part e))
+    ]
+
+  -- the sink failed in a line
+  pub broke_off : Ups s w d n registry script out now disk disk_now wire wire_now WriteFault → RunsUp s w d n registry script script_now out now disk disk_now wire wire_now WriteFault
+  broke_off ups = record {
+    told = ups.told;
+    lines = ups.lines;
+    report = λ t. (let p = ups.written t in (p.0, (Memory, (λ h. cc), ups.lines, (p.1.0 ++ last_line Memory, ap (λ (x : List ℕ). x ++ last_line Memory) p.1.1 ∙ append_assoc p.0 p.1.0 (last_line Memory))), p.2));
+    traces = ups.traces;
+    read = λ t. tt;
+    damage = tt;
+  }
+
+-- how the script ended, by which lines were told of
+pub ends_at : (script left : List ℕ) (told : Telling) (stop : UpStop) → AreTold (lines_done 0 (script_lines_of script)) (line_refused 0 (script_lines_of script)) told (status_of stop) → EndsUpAt script left (status_of stop)
+ends_at script left told (ScriptStop line) h = h.0
+ends_at script left told ReadStop h = tt
+ends_at script left told WriteStop h = tt
+ends_at script left told MemoryStop h = tt
+ends_at script left told (ClusterStop (DiskFailed file)) h = tt
+ends_at script left told (ClusterStop NoRoom) h = tt
+ends_at script left told (ClusterStop (Damaged file (NoJournal at))) h = tt
+ends_at script left told (ClusterStop (Damaged file (RefusedEntry index))) h = tt
+ends_at script left told (ClusterStop (Damaged file (LacksCell cell))) h = tt
+ends_at script left told (ClusterStop (Damaged file SpentEpochs)) h = tt
+
+module _ {S W D : Type 0} (s : SourceGhosts S) (w : SinkGhosts W) (d : DiskGhosts D) (registry : Registry) (script script_now : S) (out mid : W) (disk disk_now : D) where
+  abbrev Caused : UpStop → Type 0
+  Caused stop = HasItsCause s w (OpensSo d registry disk disk_now) script script_now out mid (Err stop)
+
+  pub damaged : (stop : UpStop) → Caused stop → IsDamaged d registry disk disk_now (status_of stop)
+  damaged (ScriptStop line) cause = tt
+  damaged ReadStop cause = tt
+  damaged WriteStop cause = tt
+  damaged MemoryStop cause = tt
+  damaged (ClusterStop (DiskFailed file)) cause = tt
+  damaged (ClusterStop NoRoom) cause = tt
+  damaged (ClusterStop (Damaged file (NoJournal at))) cause = cause
+  damaged (ClusterStop (Damaged file (RefusedEntry index))) cause = cause
+  damaged (ClusterStop (Damaged file (LacksCell cell))) cause = (file, cause)
+  damaged (ClusterStop (Damaged file SpentEpochs)) cause = cause
+
+  fails_own : (stop : UpStop) → Caused stop → DiskFails d disk disk_now (status_of stop)
+  fails_own (ScriptStop line) cause = tt
+  fails_own ReadStop cause = tt
+  fails_own WriteStop cause = tt
+  fails_own MemoryStop cause = tt
+  fails_own (ClusterStop (DiskFailed file)) cause = cause
+  fails_own (ClusterStop NoRoom) cause = tt
+  fails_own (ClusterStop (Damaged file (NoJournal at))) cause = tt
+  fails_own (ClusterStop (Damaged file (RefusedEntry index))) cause = tt
+  fails_own (ClusterStop (Damaged file (LacksCell cell))) cause = tt
+  fails_own (ClusterStop (Damaged file SpentEpochs)) cause = tt
+
+  pub disk_fails : (stop : UpStop) (result : Status) → Caused stop → EndsWith (status_of stop) result → DiskFails d disk disk_now result
+  disk_fails stop result cause ends = elim ends [
+    | inl own ↦ subst (DiskFails d disk disk_now) (sym own) (fails_own stop cause)
+    | inr (inl memory) ↦ subst (DiskFails d disk disk_now) (sym memory) tt
+    | inr (inr write) ↦ subst (DiskFails d disk disk_now) (sym write) tt
+  ]
+
+  read_own : (stop : UpStop) → Caused stop → status_of stop ≡ ReadFault → SourceFails s script script_now
+  read_own (ScriptStop line) cause h = absurd cc
+  read_own ReadStop cause h = cause
+  read_own WriteStop cause h = absurd cc
+  read_own MemoryStop cause h = absurd cc
+  read_own (ClusterStop (DiskFailed file)) cause h = absurd cc
+  read_own (ClusterStop NoRoom) cause h = absurd cc
+  read_own (ClusterStop (Damaged file (NoJournal at))) cause h = absurd cc
+  read_own (ClusterStop (Damaged file (RefusedEntry index))) cause h = absurd cc
+  read_own (ClusterStop (Damaged file (LacksCell cell))) cause h = absurd cc
+  read_own (ClusterStop (Damaged file SpentEpochs)) cause h = absurd cc
+
+  pub read_fails : (stop : UpStop) (result : Status) → Caused stop → EndsWith (status_of stop) result → result ≡ ReadFault → SourceFails s script script_now
+  read_fails stop result cause ends is = elim ends [
+    | inl own ↦ read_own stop cause (sym own ∙ is)
+    | inr (inl memory) ↦ (let no : Memory ≡ ReadFault = sym memory ∙ is in absurd cc)
+    | inr (inr write) ↦ (let no : WriteFault ≡ ReadFault = sym write ∙ is in absurd cc)
+  ]
+
+stops_up : (stop : UpStop) → EndsUp (status_of stop)
+stops_up (ScriptStop line) = tt
+stops_up ReadStop = tt
+stops_up WriteStop = tt
+stops_up MemoryStop = tt
+stops_up (ClusterStop (DiskFailed file)) = tt
+stops_up (ClusterStop NoRoom) = tt
+stops_up (ClusterStop (Damaged file (NoJournal at))) = tt
+stops_up (ClusterStop (Damaged file (RefusedEntry index))) = tt
+stops_up (ClusterStop (Damaged file (LacksCell cell))) = tt
+stops_up (ClusterStop (Damaged file SpentEpochs)) = tt
+
+pub ends_up : (own result : Status) → EndsUp own → EndsWith own result → EndsUp result
+ends_up own result is ends = elim ends [
+  | inl same ↦ subst EndsUp (sym same) is
+  | inr (inl memory) ↦ subst EndsUp (sym memory) tt
+  | inr (inr write) ↦ subst EndsUp (sym write) tt
+]
+
+pub stop_ends_up : (stop : UpStop) (result : Status) → EndsWith (status_of stop) result → EndsUp result
+stop_ends_up stop result ends = ends_up (status_of stop) result (stops_up stop) ends
+
+pub not_writing : (stop : UpStop) → stop ≢ WriteStop → status_of stop ≢ WriteFault
+not_writing (ScriptStop line) other h = cc
+not_writing ReadStop other h = cc
+not_writing WriteStop other h = other refl
+not_writing MemoryStop other h = cc
+not_writing (ClusterStop (DiskFailed file)) other h = cc
+not_writing (ClusterStop NoRoom) other h = cc
+not_writing (ClusterStop (Damaged file (NoJournal at))) other h = cc
+not_writing (ClusterStop (Damaged file (RefusedEntry index))) other h = cc
+not_writing (ClusterStop (Damaged file (LacksCell cell))) other h = cc
+not_writing (ClusterStop (Damaged file SpentEpochs)) other h = cc
+
+-- what was written is a report of what was asked
+upped : (lines : List (List ℕ)) (told : Telling) (status : Status) (report : List ℕ) → status ≢ WriteFault → AreTold (lines_done 0 lines) (line_refused 0 lines) told status → report ≡ telling_text told ++ last_line status → IsUpped lines status report
+upped lines told WriteFault report apart h is = absurd (apart refl)
+upped lines told other report apart h is = (told, h, is)
+
+pub is_report : (registry : Registry) (script : List ℕ) (told : Telling) (tells : Bool) → IsTrue tells → (status : Status) (report : List ℕ)
+    → AreTold (lines_done 0 (script_lines_of script)) (line_refused 0 (script_lines_of script)) told status
+    → IsReportOf tells (lines_done 0 (script_lines_of script)) (line_refused 0 (script_lines_of script)) told status report → IsReport (record { job = Ok (does_lines registry); lines = script_lines_of script }) status report
+is_report registry script told tells t WriteFault report h is =
+    (is.0, telling_text told ++ last_line is.0, upped (script_lines_of script) told is.0 (telling_text told ++ last_line is.0) is.1 (is.2 t) refl, is.3)
+is_report registry script told tells t other report h is = (told, h, is)
+
+-- a configuration that gives no work
+module _ {S W D N : Type 0} (s : SourceGhosts S) (w : SinkGhosts W) (d : DiskGhosts D) (n : WireGhosts N) (registry : Registry) (script : S) (out now : W) (disk : D) (wire : N) where
+  none_told : (own : Status) → AreTold (lines_done 0 (script_lines_of (s.left script))) (line_refused 0 (script_lines_of (s.left script))) nothing_told own → IsWritten w nothing_told out out own
+      → ((T : Type 0) → WhereOpened own nothing_told T) → Ups s w d n registry script out out disk disk wire wire own
+  none_told own lines written where_none = record { told = nothing_told; lines = λ _. lines; written = written; traces = λ a b e f g h j. where_none _ }
+
+  pub config_fails : (fault : ConfigFault) (job : Result Job Status) → Configures (Err fault) job → job ≡ Ok (does_lines registry) → (result : Status) → EndsWith (status_of_config fault) result
+      → (result ≢ WriteFault → WritesAll w out now (last_line result)) → (result ≡ WriteFault → WritesFrontOf w out now (status_of_config fault)) → RunsUp s w d n registry script script out now disk disk wire wire result
+  config_fails Read job told is result ends all part =
+      finished s w d n registry script script out out now disk disk wire wire ReadFault (λ h. cc) (none_told ReadFault (refl, (lines_done 0 (script_lines_of (s.left script)), refl)) (λ t. sym (append-nil (w.written out))) (λ T. inl refl)) (λ t. tt) tt result ends all part
+  config_fails NoSpace job told is result ends all part =
+      finished s w d n registry script script out out now disk disk wire wire Memory (λ h. cc) (none_told Memory (lines_done 0 (script_lines_of (s.left script)), refl) (λ t. sym (append-nil (w.written out))) (λ T. inl refl)) (λ t. tt) tt result ends all part
+  config_fails Long job told is result ends all part = absurd cc
+  config_fails (Refused number) job told is result ends all part = absurd cc
+  config_fails NoSuchCell job told is result ends all part = absurd cc

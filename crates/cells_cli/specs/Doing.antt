@@ -1,0 +1,142 @@
+-- What doing the lines of a script comes to, by how it ended.
+use Rattle.std.specs.Prelude.{◌≡◌, ℕ, ◌+◌, Bool, true, IsTrue, List, [], ◌∷◌, ◌++◌, Option, Some, None, Result, Ok, Err}
+use Rattle.cells_edge.specs.Streams.{WritesAll, WritesFront, SinkFails, SourceFails}
+use Rattle.cells_edge.specs.declared.sink.Sink.{Ghosts as SinkGhosts}
+use Rattle.cells_edge.specs.declared.source.Source.{Ghosts as SourceGhosts}
+use Rattle.cells_edge.specs.declared.wire.Wire.{Ghosts as WireGhosts}
+use Rattle.disk_journal.specs.declared.disk.Disk.{Ghosts as DiskGhosts}
+use Rattle.cells_script.specs.declared.line.Line.{Line}
+use Rattle.cells_world.specs.Cluster.{IsReady, IsEndOf}
+use Rattle.cells_world.specs.World.{At}
+use Rattle.cells_world.specs.declared.fault.ClusterError.{ClusterError}
+use Rattle.cells_world.specs.declared.fault.ClusterError.TheVariants.{DiskFailed, Memory as NoRoom, Damaged}
+use Rattle.cells_world.specs.declared.fault.Damage.TheVariants.{NotAJournal as NoJournal, BadEntry as RefusedEntry, ConfigLacks as LacksCell, EpochsSpent as SpentEpochs}
+use Rattle.cells_cli.specs.ScriptLines.{script_lines_of}
+use Rattle.cells_cli.specs.Script.{Numbered, done_with, lines_done, line_refused, reading_of, refused_with}
+use Rattle.cells_cli.specs.Told.{Item, Telling, items_text, numbered, numbered_broken, telling_text}
+use Rattle.cells_cli.specs.Went.{Went}
+use Rattle.cells_cli.specs.declared.lines.LineFault.{LineFault}
+use Rattle.cells_cli.specs.declared.lines.LineFault.TheVariants.{TooLong, TooMany, Read}
+use Rattle.cells_cli.specs.declared.lines.TheConstants.{LINES}
+use Rattle.cells_cli.specs.declared.status.Status.{Status}
+use Rattle.cells_cli.specs.declared.status.Status.TheVariants.{End, Script, ReadFault, WriteFault, Memory, DiskFault, NotAJournal, BadEntry, ConfigLacks, EpochsSpent}
+use Rattle.cells_cli.specs.declared.up.UpStop.{UpStop}
+use Rattle.cells_cli.specs.declared.up.UpStop.TheVariants.{Script as ScriptStop, ReadFault as ReadStop, WriteFault as WriteStop, Memory as MemoryStop, Cluster as ClusterStop}
+
+-- how a cluster's end is told
+abbrev pub status_of_cluster : ClusterError → Status
+status_of_cluster (DiskFailed file) = DiskFault file
+status_of_cluster NoRoom = Memory
+status_of_cluster (Damaged file (NoJournal at)) = NotAJournal file at
+status_of_cluster (Damaged file (RefusedEntry index)) = BadEntry file index
+status_of_cluster (Damaged file (LacksCell cell)) = ConfigLacks cell
+status_of_cluster (Damaged file SpentEpochs) = EpochsSpent file
+
+abbrev pub status_of : UpStop → Status
+status_of (ScriptStop line) = Script line
+status_of ReadStop = ReadFault
+status_of WriteStop = WriteFault
+status_of MemoryStop = Memory
+status_of (ClusterStop error) = status_of_cluster error
+
+-- how doing lines ended
+abbrev pub ended : Result (Unit {0}) UpStop → Status
+ended (Ok done) = End
+ended (Err stop) = status_of stop
+
+-- why a script is not done further where no line of it comes
+abbrev pub stop_of : LineFault → UpStop
+stop_of (TooLong line) = ScriptStop line
+stop_of TooMany = ScriptStop (LINES + 1)
+stop_of Read = ReadStop
+
+-- a line at which the cluster came to an end: by what telling of it came to, or by that
+abbrev pub stopped_by : Result (Unit {0}) UpStop → ClusterError → Result (Unit {0}) UpStop
+stopped_by (Ok done) error = Err (ClusterStop error)
+stopped_by (Err stop) error = Err stop
+
+-- these bytes were written: all of them, or none where memory was wanting, or a front where the sink failed
+abbrev pub Tells : {W : Type 0} → SinkGhosts W → List ℕ → W → W → Result (Unit {0}) UpStop → Type 0
+Tells w bytes out out_now (Ok done) = WritesAll w out out_now bytes
+Tells w bytes out out_now (Err MemoryStop) = WritesAll w out out_now []
+Tells w bytes out out_now (Err WriteStop) = WritesFront w out out_now bytes × SinkFails w out out_now
+Tells w bytes out out_now (Err other) = ⊥
+
+-- a run that ended between two lines
+abbrev pub IsBetween : Status → Type 0
+IsBetween End = Unit {0}
+IsBetween (Script line) = Unit {0}
+IsBetween ReadFault = Unit {0}
+IsBetween other = ⊥
+
+-- some first ones of these
+abbrev pub AreFirst : List Numbered → List Numbered → Type 0
+AreFirst some all = (rest : List Numbered) × (some ++ rest ≡ all)
+
+-- which lines were told of: all that were wanted, where none is refused or the refused one ended the run; and else some first ones
+abbrev pub AreTold : List Numbered → Option ℕ → Telling → Status → Type 0
+AreTold wanted refused told End = (refused ≡ None) × (told.broken ≡ None) × (numbered told.items ≡ wanted)
+AreTold wanted refused told (Script line) = (refused ≡ Some line) × (told.broken ≡ None) × (numbered told.items ≡ wanted)
+AreTold wanted refused told ReadFault = (told.broken ≡ None) × AreFirst (numbered told.items) wanted
+AreTold wanted refused told other = AreFirst (numbered told.items ++ numbered_broken told.broken) wanted
+
+-- what was written: all that is told, and where the sink failed a front of it
+abbrev pub IsWritten : {W : Type 0} → SinkGhosts W → Telling → W → W → Status → Type 0
+IsWritten w told out out_now WriteFault = WritesFront w out out_now (telling_text told)
+IsWritten w told out out_now other = WritesAll w out out_now (telling_text told)
+
+-- What doing lines came to: what is told of them, and what they brought about.
+pub record Does {W D N : Type 0} (w : SinkGhosts W) (d : DiskGhosts D) (n : WireGhosts N) (tells : Bool) (wanted : List Numbered) (refused : Option ℕ) (old new : At D N) (out out_now : W) (status : Status) : Type 0 where
+  pub told : Telling
+  -- the moment at which the last line ended that was answered
+  pub here : At D N
+  pub ready : IsReady d here.disk here.cluster
+  pub went : Went d n old told.items here
+  pub ends : IsBetween status → here ≡ new
+  pub lines : IsTrue tells → AreTold wanted refused told status
+  pub written : IsWritten w told out out_now status
+
+-- of one line
+abbrev pub DoesLine : {W D N : Type 0} → SinkGhosts W → DiskGhosts D → WireGhosts N → ℕ → Line → At D N → At D N → W → W → Result (Unit {0}) UpStop → Type 0
+DoesLine w d n number line old new out out_now result = Does w d n true (record { number = number; line = line } ∷ []) None old new out out_now (ended result)
+
+-- of the bytes of one line
+abbrev pub DoesText : {W D N : Type 0} → SinkGhosts W → DiskGhosts D → WireGhosts N → ℕ → List ℕ → At D N → At D N → W → W → Result (Unit {0}) UpStop → Type 0
+DoesText w d n number text old new out out_now result =
+    Does w d n true (done_with number (reading_of text) []) (refused_with number (reading_of text) None) old new out out_now (ended result)
+
+-- of all lines of a script
+abbrev pub DoesScript : {S W D N : Type 0} → SourceGhosts S → SinkGhosts W → DiskGhosts D → WireGhosts N → S → At D N → At D N → W → W → Result (Unit {0}) UpStop → Type 0
+DoesScript s w d n script old new out out_now result =
+    Does w d n s.tells (lines_done 0 (script_lines_of (s.left script))) (line_refused 0 (script_lines_of (s.left script))) old new out out_now (ended result)
+
+-- So far all lines were answered: with those ahead, where so many stand before them, they are all that were wanted.
+pub record SoFar {W D N : Type 0} (w : SinkGhosts W) (d : DiskGhosts D) (n : WireGhosts N) (tells : Bool) (wanted : List Numbered) (refused : Option ℕ) (given : ℕ) (ahead : List (List ℕ)) (old now : At D N) (out out_now : W) : Type 0 where
+  pub items : List Item
+  pub went : Went d n old items now
+  pub lines : IsTrue tells → numbered items ++ lines_done given ahead ≡ wanted
+  pub refuses : IsTrue tells → line_refused given ahead ≡ refused
+  pub written : WritesAll w out out_now (items_text items)
+
+-- a script that was done was read to its end
+abbrev pub ReadsAll : {S : Type 0} → SourceGhosts S → S → Result (Unit {0}) UpStop → Type 0
+ReadsAll s script_now (Ok done) = s.left script_now ≡ []
+ReadsAll s script_now (Err stop) = Unit {0}
+
+-- how a cluster comes to an end in its lines
+abbrev pub EndsSo : {D : Type 0} → DiskGhosts D → D → D → ClusterError → Type 0
+EndsSo d disk disk_now error = IsEndOf {T = Unit {0}} d disk disk_now (Err error)
+
+-- a line's stop has its cause; no line stops for a fault of reading
+abbrev pub HasLineCause : {W D : Type 0} → SinkGhosts W → DiskGhosts D → W → W → D → D → Result (Unit {0}) UpStop → Type 0
+HasLineCause w d out out_now disk disk_now (Err ReadStop) = ⊥
+HasLineCause w d out out_now disk disk_now (Err WriteStop) = SinkFails w out out_now
+HasLineCause w d out out_now disk disk_now (Err (ClusterStop error)) = EndsSo d disk disk_now error
+HasLineCause w d out out_now disk disk_now other = Unit {0}
+
+-- a stop has its cause
+abbrev pub HasItsCause : {S W : Type 0} → SourceGhosts S → SinkGhosts W → (ClusterError → Type 0) → S → S → W → W → Result (Unit {0}) UpStop → Type 0
+HasItsCause s w Fails script script_now out out_now (Err ReadStop) = SourceFails s script script_now
+HasItsCause s w Fails script script_now out out_now (Err WriteStop) = SinkFails w out out_now
+HasItsCause s w Fails script script_now out out_now (Err (ClusterStop error)) = Fails error
+HasItsCause s w Fails script script_now out out_now other = Unit {0}

@@ -1,0 +1,127 @@
+-- What a run of a script over the service and its cells comes to.
+use Rattle.std.specs.Prelude.{◌≡◌, ◌≢◌, ◌⊎◌, ℕ, Bool, IsTrue, List, [], ◌++◌, Option, None, Some, Err}
+use Rattle.cells_edge.specs.Edge.{IsPrefix}
+use Rattle.cells_edge.specs.Streams.{Writes}
+use Rattle.cells_edge.specs.declared.sink.Sink.{Ghosts as SinkGhosts}
+use Rattle.cells_edge.specs.declared.source.Source.{Ghosts as SourceGhosts}
+use Rattle.cells_edge.specs.declared.wire.Packet.{Packet as WirePacket}
+use Rattle.cells_edge.specs.declared.wire.Wire.{Ghosts as WireGhosts}
+use Rattle.disk_journal.specs.Disk.{Image, IsImage}
+use Rattle.disk_journal.specs.declared.disk.Disk.{Ghosts as DiskGhosts}
+use Rattle.claim_map.specs.Legal.{IsRun, replay}
+use Rattle.claim_map.specs.Registry.{Registry}
+use Rattle.claim_map.specs.State.{ClaimMap}
+use Rattle.claim_laws.specs.Events.{Event, run}
+use Rattle.claim_laws.specs.Facts.{IsInOrder}
+use Rattle.claim_laws.specs.Proper.{AreConfigured}
+use Rattle.claim_laws.specs.Reopened.{IsReopened}
+use Rattle.claim_laws.specs.World.{World}
+use Rattle.cells_world.specs.Opening.{IsDamage, IsOpenEnd, StandsStill}
+use Rattle.cells_world.specs.World.{AreGiven, IsOf}
+use Rattle.cells_world.specs.declared.fault.ClusterError.{ClusterError}
+use Rattle.cells_world.specs.declared.fault.Damage.{Damage}
+use Rattle.cells_world.specs.declared.fault.Damage.TheVariants.{NotAJournal as NoJournal, BadEntry as RefusedEntry, ConfigLacks as LacksCell, EpochsSpent as SpentEpochs}
+use Rattle.cells_cli.specs.Doing.{AreTold, IsBetween, IsWritten}
+use Rattle.cells_cli.specs.ScriptLines.{script_lines_of}
+use Rattle.cells_cli.specs.Script.{Numbered, lines_done, line_refused}
+use Rattle.cells_cli.specs.Status.{last_line}
+use Rattle.cells_cli.specs.Told.{Item, Telling, lines_told, steps_told, telling_text}
+use Rattle.cells_cli.specs.Went.{AreOfLines}
+use Rattle.cells_cli.specs.declared.status.Status.{Status}
+use Rattle.cells_cli.specs.declared.status.Status.TheVariants.{End, Script, ReadFault, WriteFault, Memory, DiskFault, NotAJournal, BadEntry, ConfigLacks, EpochsSpent}
+
+-- nothing is told of any line
+abbrev pub nothing_told : Telling
+nothing_told = record { items = []; broken = None }
+
+-- the packets that a wire handed over between two moments are those of these events, in order
+abbrev pub HandsThese : {N : Type 0} → WireGhosts N → Registry → World → List Event → N → N → Type 0
+HandsThese n registry w events wire wire_now = IsTrue n.tells → (given : List WirePacket) × (n.handed wire_now ≡ n.handed wire ++ given) × AreGiven registry w given events
+
+-- The transitions that are told are a run of legal steps from the claim map of a world that the files stood for: every node was opened
+-- again, and then came the events of the lines, in order. Where the run ended between two lines, the packets of the events are those that
+-- the wire handed over, and the files stand for the world behind them, whatever a crash leaves.
+pub record Traces {D N : Type 0} (d : DiskGhosts D) (n : WireGhosts N) (registry : Registry) (w : World) (items : List Item) (disk_now : D) (wire wire_now : N) (status : Status) : Type 0 where
+  pub opened : World
+  pub again : IsReopened w opened
+  pub events : List Event
+  pub of_lines : AreOfLines registry opened (lines_told items) events
+  pub trace : (run registry events opened).trace ≡ steps_told items
+  pub legal : IsRun registry w.claims [] 0 (run registry events opened).handed (steps_told items)
+  pub replayed : replay w.claims (steps_told items) ≡ (run registry events opened).claims
+  pub handed : IsBetween status → HandsThese n registry opened events wire wire_now
+  pub stands : IsBetween status → (img : Image) → IsImage (d.may_leave disk_now) img → IsOf registry img (run registry events opened)
+
+-- so it is of a run that got so far that its nodes were opened: of one that came to the end of the script or to a line that is refused, or told anything
+abbrev pub WhereOpened : Status → Telling → Type 0 → Type 0
+WhereOpened End told T = T
+WhereOpened (Script line) told T = T
+WhereOpened other told T = (told ≡ nothing_told) ⊎ T
+
+-- What a run comes to: what is told of its lines and written, and, where the disk tells its content and its count of faults stood still,
+-- the transitions told are such a run, from any world in order that the files stood for.
+pub record Ups {S W D N : Type 0} (s : SourceGhosts S) (w : SinkGhosts W) (d : DiskGhosts D) (n : WireGhosts N) (registry : Registry) (script : S) (out out_now : W) (disk disk_now : D) (wire wire_now : N) (status : Status) : Type 0 where
+  pub told : Telling
+  pub lines : IsTrue s.tells → AreTold (lines_done 0 (script_lines_of (s.left script))) (line_refused 0 (script_lines_of (s.left script))) told status
+  pub written : IsWritten w told out out_now status
+  pub traces : IsTrue d.tells → StandsStill d disk disk_now → (start : ClaimMap) (world : World) →
+      IsInOrder registry start world → AreConfigured registry world → IsOf registry (d.seen disk) world →
+      WhereOpened status told (Traces d n registry world told.items disk_now wire wire_now status)
+
+-- The reports of a run with a script, by how it ended: what is told, and the last line. A fault of writing leaves a front of a report with
+-- another last line.
+abbrev pub IsReportOf : Bool → List Numbered → Option ℕ → Telling → Status → List ℕ → Type 0
+IsReportOf tells wanted refused told WriteFault report =
+    (last : Status) × (last ≢ WriteFault) × (IsTrue tells → AreTold wanted refused told last) × IsPrefix report (telling_text told ++ last_line last)
+IsReportOf tells wanted refused told status report = report ≡ telling_text told ++ last_line status
+
+-- such a report of these lines; no run that could write it whole ends with a fault of writing
+abbrev pub IsUpped : List (List ℕ) → Status → List ℕ → Type 0
+IsUpped lines WriteFault report = ⊥
+IsUpped lines status report = (told : Telling) × AreTold (lines_done 0 lines) (line_refused 0 lines) told status × (report ≡ telling_text told ++ last_line status)
+
+-- the script was read to its end and none of its lines is refused, or its first refused line is named
+abbrev pub EndsUpAt : List ℕ → List ℕ → Status → Type 0
+EndsUpAt script left End = (left ≡ []) × (line_refused 0 (script_lines_of script) ≡ None)
+EndsUpAt script left (Script line) = line_refused 0 (script_lines_of script) ≡ Some line
+EndsUpAt script left other = Unit {0}
+
+-- what a read gave of the files at the start shows the damage that is named, where the disk tells its content and its count of faults stood still
+abbrev pub ShowsDamage : {D : Type 0} → DiskGhosts D → Registry → D → D → ℕ → Damage → Type 0
+ShowsDamage d registry disk disk_now file damage = IsTrue d.tells → StandsStill d disk disk_now → IsDamage registry (d.seen disk) file damage
+
+abbrev pub IsDamaged : {D : Type 0} → DiskGhosts D → Registry → D → D → Status → Type 0
+IsDamaged d registry disk disk_now (NotAJournal file at) = ShowsDamage d registry disk disk_now file (NoJournal at)
+IsDamaged d registry disk disk_now (BadEntry file index) = ShowsDamage d registry disk disk_now file (RefusedEntry index)
+IsDamaged d registry disk disk_now (ConfigLacks cell) = (file : ℕ) × ShowsDamage d registry disk disk_now file (LacksCell cell)
+IsDamaged d registry disk disk_now (EpochsSpent cell) = ShowsDamage d registry disk disk_now cell SpentEpochs
+IsDamaged d registry disk disk_now other = Unit {0}
+
+-- the statuses of a run with a script
+abbrev pub EndsUp : Status → Type 0
+EndsUp End = Unit {0}
+EndsUp (Script line) = Unit {0}
+EndsUp ReadFault = Unit {0}
+EndsUp WriteFault = Unit {0}
+EndsUp Memory = Unit {0}
+EndsUp (DiskFault file) = Unit {0}
+EndsUp (NotAJournal file at) = Unit {0}
+EndsUp (BadEntry file index) = Unit {0}
+EndsUp (ConfigLacks cell) = Unit {0}
+EndsUp (EpochsSpent cell) = Unit {0}
+EndsUp other = ⊥
+
+-- What a run with a script over this configuration comes to, with its report.
+pub record RunsUp {S W D N : Type 0} (s : SourceGhosts S) (w : SinkGhosts W) (d : DiskGhosts D) (n : WireGhosts N) (registry : Registry) (script script_now : S) (out out_now : W) (disk disk_now : D) (wire wire_now : N) (status : Status) : Type 0 where
+  pub told : Telling
+  pub lines : IsTrue s.tells → AreTold (lines_done 0 (script_lines_of (s.left script))) (line_refused 0 (script_lines_of (s.left script))) told status
+  pub report : Writes w out out_now (IsReportOf s.tells (lines_done 0 (script_lines_of (s.left script))) (line_refused 0 (script_lines_of (s.left script))) told status)
+  pub traces : IsTrue d.tells → StandsStill d disk disk_now → (start : ClaimMap) (world : World) →
+      IsInOrder registry start world → AreConfigured registry world → IsOf registry (d.seen disk) world →
+      WhereOpened status told (Traces d n registry world told.items disk_now wire wire_now status)
+  pub read : IsTrue s.tells → EndsUpAt (s.left script) (s.left script_now) status
+  pub damage : IsDamaged d registry disk disk_now status
+
+-- how an opening comes to an end
+abbrev pub OpensSo : {D : Type 0} → DiskGhosts D → Registry → D → D → ClusterError → Type 0
+OpensSo d registry disk disk_now error = IsOpenEnd {T = Unit {0}} d registry disk disk_now (Err error)

@@ -1,7 +1,6 @@
 -- The texts of answers, notes and transitions. Each is a name, and words behind it that each follow a space.
 use Rattle.std.specs.Prelude.{ℕ, List, [], ◌∷◌, ◌++◌, codes, decimal, Some, None}
-use Rattle.uuid.specs.Text.{hyphenated_text, lower}
-use Rattle.claim_types.specs.Leases.{lease_bytes}
+use Rattle.claim_types.specs.Leases.{lease_text}
 use Rattle.claim_types.specs.Names.{bucket_name}
 use Rattle.claim_types.specs.declared.key.ClaimKey.{ClaimKey}
 use Rattle.claim_types.specs.declared.lease.How.{How}
@@ -27,10 +26,6 @@ use Rattle.cells_script.specs.declared.answer.Answer.TheVariants as answer
 abbrev pub behind : List (List ℕ) → List ℕ
 behind [] = []
 behind (word ∷ words) = 32 ∷ (word ++ behind words)
-
--- a lease: the lower-case hyphenated form of its UUID
-unfoldable pub lease_text : LeaseId → List ℕ
-lease_text lease = hyphenated_text lower (lease_bytes lease)
 
 -- a key: its bucket, a colon and its value
 abbrev pub key_text : ClaimKey → List ℕ

@@ -1,10 +1,10 @@
 //! Answers, notes and transitions as texts.
 ghost use Rattle.std.specs.Prelude.{◌≡◌, [], ◌∷◌, ◌++◌, IfOk, OnOk};
-ghost use Rattle.claim_types.specs.Leases.{IsLease};
+ghost use Rattle.claim_types.specs.Leases.{IsLease, lease_text};
 ghost use Rattle.cells_script.specs.Said.{word_text};
 ghost use Rattle.cells_script.specs.Telling.{CanTellAnswer, CanTellDenial, CanTellNote, CanTellStep};
 ghost use Rattle.cells_script.specs.Texts as spec;
-ghost use Rattle.cells_script.specs.Texts.{behind, lease_text};
+ghost use Rattle.cells_script.specs.Texts.{behind};
 
 use crate::Answer;
 use crate::parts::{put_question, put_reason, put_rule};
@@ -187,7 +187,8 @@ fn class_word(class: Class) -> Word<'static>
 
 // Writes what was asked, and a word about it.
 fn put_asked(out: &mut Vec<u8>, question: &Question, word: Word<'_>) -> Result<(), NoMemory>
-    ensures { OnOk result (out.new.items ≡ out.old.items ++ behind (spec.question_words question.now ++ word_text word.entry ∷ [])) }
+    ensures { OnOk result (out.new.items
+        ≡ out.old.items ++ behind (spec.question_words question.now ++ word_text word.entry ∷ [])) }
 {
     put_question(out, question)?;
     put_words(out, &[word])

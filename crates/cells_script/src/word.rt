@@ -1,8 +1,8 @@
 //! The words of a text, written one behind the other.
 ghost use Rattle.std.specs.Prelude.{◌≡◌, ◌++◌, OnOk, decimal, map};
-ghost use Rattle.claim_types.specs.Leases.{IsLease};
+ghost use Rattle.claim_types.specs.Leases.{IsLease, lease_text};
 ghost use Rattle.cells_script.specs.Said.{id_text, word_text};
-ghost use Rattle.cells_script.specs.Texts.{behind, key_text, lease_text};
+ghost use Rattle.cells_script.specs.Texts.{behind, key_text};
 
 use claim_types::{ClaimKey, LeaseId, NoMemory};
 use itoa::Buffer;
@@ -19,7 +19,7 @@ pub enum Word<'a> {
 }
 
 // The word that names a lease.
-#[tactic(auto, unfolding(crate::specs::Said::id_text, crate::specs::Texts::lease_text))]
+#[tactic(auto, unfolding(crate::specs::Said::id_text, claim_types::specs::Leases::lease_text))]
 pub fn lease_word(lease: LeaseId) -> Word<'static>
     requires { IsLease lease }
     ensures { word_text result ≡ lease_text lease }

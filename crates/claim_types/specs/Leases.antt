@@ -2,6 +2,7 @@
 use Rattle.std.specs.Prelude.{◌≡◌, ℕ, ◌+◌, ◌-◌, ◌^◌, ◌≤◌, Bool, ◌&&◌, nat_le, if◌then◌else◌, List, [], ◌∷◌, ◌++◌, Option, Some, None, slice_index}
 use Rattle.std.specs.Int.{w16, w32, w64, to_be_bytes, from_be_bytes}
 use Rattle.std.specs.Str.{bytes_eq}
+use Rattle.uuid.specs.Text.{hyphenated_text, lower}
 use Rattle.claim_types.specs.declared.lease.LeaseId.{LeaseId}
 use Rattle.claim_types.specs.declared.limits.TheConstants.{GREATEST_CELL, GREATEST_EPOCH, GREATEST_ATTEMPT}
 
@@ -17,6 +18,10 @@ pub record IsLease (lease : LeaseId) : Type 0 where
 -- the cell in 16 bits, the epoch in 32, the version 1000 and twelve zero bits, the variant 10 and the attempt in 62 bits
 abbrev pub lease_bytes : LeaseId → List ℕ
 lease_bytes lease = to_be_bytes w16 lease.cell ++ to_be_bytes w32 lease.epoch ++ (128 ∷ 0 ∷ []) ++ to_be_bytes w64 (2 ^ 63 + lease.attempt)
+
+-- the text of a lease: the lower-case hyphenated form of its UUID
+unfoldable pub lease_text : LeaseId → List ℕ
+lease_text lease = hyphenated_text lower (lease_bytes lease)
 
 -- some lease within its bounds has these bytes
 abbrev pub NamesLease : List ℕ → Type 0

@@ -10,7 +10,7 @@ use Rattle.uuid.specs.Text.{parsed, hyphenated_text, lower}
 use Rattle.uuid.proofs.RoundTrips.{parses_hyphenated}
 use Rattle.claim_types.specs.Bounds.{IsSubjectKind, IsKey}
 use Rattle.claim_types.specs.MessageBounds.{IsAfter}
-use Rattle.claim_types.specs.Leases.{IsLease, lease_bytes, lease_in}
+use Rattle.claim_types.specs.Leases.{IsLease, lease_bytes, lease_in, lease_text}
 use Rattle.claim_types.specs.Names.{bucket_name, named_bucket, kind_name, named_subject_kind}
 use Rattle.claim_types.specs.Numbers.{numbered_kind}
 use Rattle.claim_types.specs.Order.{kind_number}
@@ -25,7 +25,6 @@ use Rattle.message_json.specs.declared.member.Member.{Member}
 use Rattle.message_json.specs.declared.member.Member.TheVariants.{Bucket as BucketMember, Value as ValueMember, Subject as SubjectMember, Table as TableMember, After}
 use Rattle.message_json.specs.Members.{member_text}
 use Rattle.message_json.specs.Reading.{member_of, text_member, number_member, between, flag_member, array_member, lease_named, lease_member, after_member, bucket_member, key_member, subject_kind_member, table_member}
-use Rattle.message_json.specs.Texts.{lease_text}
 use Rattle.message_json.specs.RequestWriter.{after_data}
 
 module _ (which : Member) (body : Data) where

@@ -5,7 +5,7 @@ use Rattle.std.specs.List.{All}
 use Rattle.serde_json.specs.View.{items_of}
 use Rattle.claim_types.specs.Bounds.{IsCell, IsClaim, IsRangeNumber, IsText}
 use Rattle.claim_types.specs.MessageBounds.{AreRows, IsDenial, IsBegunResult, IsRangedResult, IsReply, IsQuestion, IsClass, IsFound}
-use Rattle.claim_types.specs.Leases.{IsLease}
+use Rattle.claim_types.specs.Leases.{IsLease, lease_text}
 use Rattle.claim_types.specs.declared.key.Bucket.{Bucket}
 use Rattle.claim_types.specs.declared.lease.LeaseId.{LeaseId}
 use Rattle.claim_types.specs.declared.lease.How.TheVariants as how
@@ -33,7 +33,6 @@ use Rattle.message_json.specs.declared.member.Member.TheVariants as member
 use Rattle.message_json.specs.Reading.{text_member, lease_member, key_members, claim_members}
 use Rattle.message_json.specs.ReplyWriter.{denied_data, begun_data, lease_item, claim_item, reply_data}
 use Rattle.message_json.specs.ReplyReader.{how_member, keyed_denial_of, denial_of, denied_of, begun_member, begun_of, committed_member, committed_of, rolled_back_member, rolled_back_of, lease_element, leases_member, leases_of, ranged_member, ranged_of, claim_element, items_member, claims_of, classified_of, page_of, no_cell_of, of_object, of_data}
-use Rattle.message_json.specs.Texts.{lease_text}
 use Rattle.message_json.proofs.MemberLaws.{lease_again, text_back, number_back, flag_back, array_back, lease_back, bucket_back, subject_kind_back, table_back, key_back}
 use Rattle.message_json.proofs.QuestionLaws.{short_back, first_back, cell_back, session_back, claim_back, path_back, answer_back, not_found_back, unknown_back, found_back}
 use Rattle.message_json.proofs.RequestLaws.{each_back}

@@ -12,7 +12,7 @@ use Rattle.serde_json.specs.Read.{read, of_json, of_items, max_depth}
 use Rattle.serde_json.specs.Written.{outline, items_outline, members_outline}
 use Rattle.serde_json.proofs.Numbers.{number_of-decimal}
 use Rattle.claim_types.specs.Bounds.{IsClaim}
-use Rattle.claim_types.specs.Leases.{IsLease}
+use Rattle.claim_types.specs.Leases.{IsLease, lease_text}
 use Rattle.claim_types.specs.Order.{kind_number}
 use Rattle.claim_types.specs.MessageBounds.{IsReply, IsDenial, IsQuestion, IsClass}
 use Rattle.claim_types.specs.declared.key.Bucket.{Bucket}
@@ -31,7 +31,6 @@ use Rattle.claim_types.specs.declared.message.RangedResult.TheVariants as ranged
 use Rattle.claim_types.specs.declared.message.Reply.{Reply}
 use Rattle.claim_types.specs.declared.message.Reply.TheVariants.{Begun, Committed, RolledBack, Leases, Ranged, Claims, Classified, Page, NoCell}
 use Rattle.message_json.specs.Fields.{tokens_of}
-use Rattle.message_json.specs.Texts.{lease_text}
 use Rattle.message_json.specs.ReplyWriter.{denied_data, lease_item, claim_item, reply_data}
 
 -- the value of its own tokens

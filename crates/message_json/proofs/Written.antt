@@ -5,6 +5,7 @@ use Rattle.serde_json.specs.Data.{Data, Members, no_members, depth, items_depth,
 use Rattle.serde_json.specs.View.{items_of}
 use Rattle.serde_json.specs.Read.{max_depth}
 use Rattle.serde_json.specs.Written.{has_float, items_have_float, members_have_float}
+use Rattle.claim_types.specs.Leases.{lease_text}
 use Rattle.claim_types.specs.declared.message.Request.{Request}
 use Rattle.claim_types.specs.declared.message.Request.TheVariants.{Begin, Commit, Rollback, List as ListRequest, Range, Claims, Classify, Page}
 use Rattle.claim_types.specs.declared.question.Question.{Question}
@@ -16,7 +17,7 @@ use Rattle.claim_types.specs.declared.message.BegunResult.TheVariants.{Good, Den
 use Rattle.claim_types.specs.declared.message.RangedResult.TheVariants as ranged
 use Rattle.claim_types.specs.declared.message.Reply.{Reply}
 use Rattle.claim_types.specs.declared.message.Reply.TheVariants.{Begun, Committed, RolledBack, Leases, Ranged, Claims as ClaimsReply, Classified, Page as PageReply, NoCell}
-use Rattle.message_json.specs.Texts.{lease_text, text, question_front, question_back}
+use Rattle.message_json.specs.Texts.{text, question_front, question_back}
 use Rattle.message_json.specs.ReplyWriter.{denied_data, lease_item, claim_item, reply_data}
 use Rattle.message_json.specs.RequestWriter.{create_data, destroy_data, request_data}
 

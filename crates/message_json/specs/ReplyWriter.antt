@@ -3,6 +3,7 @@ use Rattle.std.specs.Prelude.{ℕ, Bool, List, codes, map, Option, Some, None}
 use Rattle.serde_json.specs.Data.{Data, null, boolean, number, string, array, object, Items, member, no_members, unsigned}
 use Rattle.serde_json.specs.View.{items_of}
 use Rattle.serde_json.specs.Written.{compact_text}
+use Rattle.claim_types.specs.Leases.{lease_text}
 use Rattle.claim_types.specs.Names.{bucket_name, kind_name}
 use Rattle.claim_types.specs.Order.{kind_number}
 use Rattle.claim_types.specs.declared.lease.LeaseId.{LeaseId}
@@ -24,7 +25,7 @@ use Rattle.claim_types.specs.declared.message.RangedResult.{RangedResult}
 use Rattle.claim_types.specs.declared.message.RangedResult.TheVariants as ranged
 use Rattle.claim_types.specs.declared.message.Reply.{Reply}
 use Rattle.claim_types.specs.declared.message.Reply.TheVariants.{Begun, Committed, RolledBack, Leases, Ranged, Claims, Classified, Page, NoCell}
-use Rattle.message_json.specs.Texts.{lease_text, text, count, question_front, question_back}
+use Rattle.message_json.specs.Texts.{text, count, question_front, question_back}
 
 -- The words of results.
 abbrev pub how_text : How → List ℕ

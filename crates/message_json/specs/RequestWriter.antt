@@ -3,6 +3,7 @@ use Rattle.std.specs.Prelude.{ℕ, Bool, List, codes, map, Option, Some, None}
 use Rattle.serde_json.specs.Data.{Data, null, boolean, string, array, object, Items, member, no_members}
 use Rattle.serde_json.specs.View.{items_of}
 use Rattle.serde_json.specs.Written.{compact_text}
+use Rattle.claim_types.specs.Leases.{lease_text}
 use Rattle.claim_types.specs.Names.{bucket_name, kind_name}
 use Rattle.claim_types.specs.Order.{kind_number}
 use Rattle.claim_types.specs.declared.key.ClaimKey.{ClaimKey}
@@ -11,7 +12,7 @@ use Rattle.claim_types.specs.declared.operations.Create.{Create}
 use Rattle.claim_types.specs.declared.question.Question.{Question}
 use Rattle.claim_types.specs.declared.message.Request.{Request}
 use Rattle.claim_types.specs.declared.message.Request.TheVariants.{Begin, Commit, Rollback, List as ListRequest, Range, Claims, Classify, Page}
-use Rattle.message_json.specs.Texts.{lease_text, text, count, question_front, question_back}
+use Rattle.message_json.specs.Texts.{text, count, question_front, question_back}
 
 -- a create, and a destroy
 abbrev pub create_data : Create → Data

@@ -4,14 +4,14 @@ ghost use Rattle.std.specs.List.{All};
 ghost use Rattle.serde_json.specs.Data.{null, number, unsigned, object, array, no_members};
 ghost use Rattle.serde_json.specs.View.{items_of};
 ghost use Rattle.claim_types.specs.declared.question.Question.TheVariants as question;
-ghost use Rattle.claim_types.specs.Leases.{IsLease};
+ghost use Rattle.claim_types.specs.Leases.{IsLease, lease_text};
 ghost use Rattle.claim_types.specs.Names.{bucket_name};
 ghost use Rattle.claim_types.specs.Writable.{AreWritableClaims, AreWritableLeases, IsWritableDenial, IsWritableKey, IsWritableQuestion, IsWritableResult, IsWritableReply};
 ghost use Rattle.claim_types.specs.MessageBounds.{IsReply};
 ghost use Rattle.message_json.specs.Fields.{AddsValue};
 ghost use Rattle.message_json.specs.ReplyReader.{reply_of};
 ghost use Rattle.message_json.specs.ReplyWriter as spec;
-ghost use Rattle.message_json.specs.Texts.{lease_text, text, count};
+ghost use Rattle.message_json.specs.Texts.{text, count};
 
 use crate::fields::{Field, members, object};
 use crate::texts::{lease_text, text_of};

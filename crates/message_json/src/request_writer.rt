@@ -7,9 +7,9 @@ ghost use Rattle.claim_types.specs.Names.{bucket_name};
 ghost use Rattle.claim_types.specs.MessageBounds.{IsAfter, IsRequest};
 ghost use Rattle.message_json.specs.RequestReader.{request_of};
 ghost use Rattle.serde_json.specs.View.{view, items_view, items_of};
-ghost use Rattle.claim_types.specs.Leases.{IsLease};
+ghost use Rattle.claim_types.specs.Leases.{IsLease, lease_text};
 ghost use Rattle.claim_types.specs.Writable.{AreWritable, IsWritableKey, IsWritableQuestion, IsWritableRequest};
-ghost use Rattle.message_json.specs.Texts.{lease_text, text};
+ghost use Rattle.message_json.specs.Texts.{text};
 ghost use Rattle.message_json.specs.RequestWriter as spec;
 
 use crate::texts::{compact, lease_text, text_of};

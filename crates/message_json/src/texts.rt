@@ -4,8 +4,7 @@ ghost use Rattle.serde_json.specs.Data.{depth};
 ghost use Rattle.serde_json.specs.Read.{max_depth, read as read_text};
 ghost use Rattle.serde_json.specs.View.{view};
 ghost use Rattle.serde_json.specs.Written.{compact_text, has_float};
-ghost use Rattle.claim_types.specs.Leases.{IsLease};
-ghost use Rattle.message_json.specs.Texts as spec;
+ghost use Rattle.claim_types.specs.Leases.{IsLease, lease_text};
 
 use claim_types::{LeaseId, NoMemory, Text};
 use serde_json::Value;
@@ -26,7 +25,7 @@ pub fn compact(alloc: Global, value: &Value) -> Result<Text, NoMemory>
 pub fn lease_text(lease: LeaseId, room: &mut [u8]) -> &str
     requires bounds { IsLease lease }
     requires room { 36 ≤ length room.old }
-    ensures { result.now ≡ spec.lease_text lease }
+    ensures { result.now ≡ lease_text lease }
 {
     lease.to_uuid().hyphenated().encode_lower(room)
 }

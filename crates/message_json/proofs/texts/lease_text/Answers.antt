@@ -1,6 +1,6 @@
 use Rattle.std.proofs.Common.{◌∙◌, ap}
 use Rattle.uuid.specs.Text.{hyphenated_text, lower}
-use Rattle.message_json.specs.Texts.{lease_text}
+use Rattle.claim_types.specs.Leases.{lease_text}
 use Rattle.message_json.proofs.texts.lease_text.Goals as goal
 
 pub returns : goal.returns

@@ -1,47 +1,113 @@
--- A line: its own event, and then packets that are handed over.
-use Rattle.std.proofs.Common.{◌≡◌, ℕ, IsTrue, List, [], ◌++◌, refl, sym, ◌∙◌, subst}
+-- A line: its own event, and then packets that are handed over; and the answer that these bring.
+use Rattle.std.proofs.Common.{◌≡◌, ◌⊎◌, inl, inr, ⊎_elim, ℕ, ◌+◌, ◌≤◌, false, IsTrue, List, [], ◌∷◌, ◌++◌, length, drop, refl, sym, ◌∙◌, ap, subst, arith}
 use Rattle.disk_journal.specs.declared.disk.Disk.{Ghosts}
 use Rattle.disk_journal.proofs.Moments.{OnlyNow, started}
 use Rattle.cells_edge.specs.declared.wire.Wire.{Ghosts as WireGhosts}
+use Rattle.claim_types.specs.declared.rule.Note.{Note}
+use Rattle.claim_types.specs.declared.step.Transition.{Transition}
 use Rattle.claim_map.proofs.Configured.{wide_of}
+use Rattle.claim_map.specs.Registry.{Registry}
 use Rattle.claim_map.specs.State.{ClaimMap}
 use Rattle.claim_laws.specs.Events.{Event, run}
 use Rattle.claim_laws.specs.Facts.{IsInOrder}
-use Rattle.claim_laws.specs.World.{World}
+use Rattle.claim_laws.specs.World.{Packet, World}
 use Rattle.claim_laws.proofs.Law.{run-in_order}
+use Rattle.cells_script.specs.declared.answer.Answer.{Answer}
 use Rattle.cells_script.specs.declared.line.Line.{Line}
+use Rattle.cells_world.specs.Answers.{Begins, answer_by, answer_of, begun_of, course_of, puts_first}
 use Rattle.cells_world.specs.Cluster.{IsReady}
-use Rattle.cells_world.specs.Lines.{AreOf, own_events}
+use Rattle.cells_world.specs.Course.{course_behind, reply_of}
+use Rattle.cells_world.specs.Follows.{AreEventsOf, Drains}
+use Rattle.cells_world.specs.Lines.{own_events}
+use Rattle.cells_world.specs.Post.{packets_of}
 use Rattle.cells_world.specs.World.{IsIn, IsReached, At, at as moment, Goes, HandsOver}
+use Rattle.cells_world.specs.declared.answer.Begun.{Begun}
 use Rattle.cells_world.specs.declared.cluster.Cluster.{Cluster}
+use Rattle.cells_world.specs.declared.course.Course.{Course}
+use Rattle.cells_world.specs.declared.limits.TheConstants.{TAKES_A_LINE}
 use Rattle.cells_world.proofs.Going.{goes_on, reached_now}
-use Rattle.cells_world.proofs.Sending.{append_nil}
+use Rattle.std.proofs.lemmas.List.{append-nil}
 use Rattle.cells_world.proofs.Served.{ready_is_of}
 use Rattle.cells_world.proofs.Wanting.{own_given}
 
-module _ {D N : Type 0} (g : Ghosts D) (n : WireGhosts N) (a c : At D N) (begun : Cluster) (wire : N) (now : ℕ) (line : Line)
-    (only_now : OnlyNow g) (ready : IsReady g a.disk a.cluster) (same : begun.registry ≡ a.cluster.registry)
-    (acts : (start : ClaimMap) (w : World) → IsInOrder a.cluster.registry start w → IsIn a.cluster w → IsIn begun (run a.cluster.registry (own_events w now line) w))
+empty_of : {X : Type 0} (xs : List X) → length xs ≤ 0 → xs ≡ []
+empty_of [] few = refl
+empty_of (x ∷ xs) few = absurd (omega (arith, few))
+
+-- what a line comes to that began this, by what was traced, noted and sent at its start and at its end
+abbrev pub comes_to : Begun → List Transition → List Transition → List Note → List Note → List Packet → Course → Answer
+comes_to begun traced trace noted notes sent course = answer_by begun (drop (length traced) trace) (drop (length noted) notes) (reply_of sent course)
+
+-- so it does by the worlds that the cluster was in
+module _ (registry : Registry) (old mid new : Cluster) (begun : Begun) (course : Course) (answer : Answer) (now : ℕ) (line : Line) (taken : List Event)
+    (w v : World) (is_in : IsIn old w) (then_in : IsIn mid v) (at_end : IsIn new (run registry taken v)) where
+  abbrev end : World
+  end = run registry taken v
+
+  pub same_answer : begun ≡ begun_of w now line → v ≡ run registry (own_events w now line) w → course ≡ course_behind registry v (course_of begun (length (packets_of mid.post))) taken →
+      answer ≡ comes_to begun old.trace.items new.trace.items old.notes.items new.notes.items (packets_of new.post) course → answer ≡ answer_of registry w now line taken
+  same_answer is_begun is_then is_course is_answer =
+      is_answer
+      ∙ ap (λ t. comes_to begun t new.trace.items old.notes.items new.notes.items (packets_of new.post) course) (sym is_in.trace)
+      ∙ ap (λ t. comes_to begun w.trace t old.notes.items new.notes.items (packets_of new.post) course) (sym at_end.trace)
+      ∙ ap (λ ns. comes_to begun w.trace end.trace ns new.notes.items (packets_of new.post) course) (sym is_in.notes)
+      ∙ ap (λ ns. comes_to begun w.trace end.trace w.notes ns (packets_of new.post) course) (sym at_end.notes)
+      ∙ ap (λ ps. comes_to begun w.trace end.trace w.notes end.notes ps course) (sym at_end.sent)
+      ∙ ap (λ q. comes_to begun w.trace end.trace w.notes end.notes end.sent q) (is_course ∙ ap (λ ps. course_behind registry v (course_of begun (length ps)) taken) (sym then_in.sent))
+      ∙ ap (λ b. comes_to b w.trace end.trace w.notes end.notes end.sent (course_behind registry v (course_of b (length v.sent)) taken)) is_begun
+      ∙ ap (λ u. comes_to (begun_of w now line) w.trace (run registry taken u).trace w.notes (run registry taken u).notes (run registry taken u).sent (course_behind registry u (course_of (begun_of w now line) (length u.sent)) taken)) is_then
+
+module _ {D N : Type 0} (g : Ghosts D) (n : WireGhosts N) (a c : At D N) (mid : Cluster) (wire : N) (now : ℕ) (line : Line) (begun : Begun) (course : Course) (answer : Answer)
+    (only_now : OnlyNow g) (ready : IsReady g a.disk a.cluster) (same : mid.registry ≡ a.cluster.registry)
+    (acts : (start : ClaimMap) (w : World) → IsInOrder a.cluster.registry start w → IsIn a.cluster w → IsIn mid (run a.cluster.registry (own_events w now line) w))
+    (begins : Begins now line a.cluster begun)
     (handed : IsTrue n.tells → n.handed wire ≡ n.handed a.wire)
-    (hands : HandsOver g n (moment begun a.disk wire) c)
+    (hands : HandsOver g n (course_of begun (length (packets_of mid.post))) course (moment mid a.disk wire) c)
+    (few : c.cluster.takes ≤ mid.takes + TAKES_A_LINE) (quiet : puts_first begun ≡ false → c.cluster.takes ≡ mid.takes)
+    (drains : IsTrue (puts_first begun) → Drains n wire c.wire mid.takes c.cluster.takes) (own_faults : n.faults a.wire ≤ n.faults wire) (same_takes : mid.takes ≡ a.cluster.takes)
+    (is_answer : answer ≡ comes_to begun a.cluster.trace.items c.cluster.trace.items a.cluster.notes.items c.cluster.notes.items (packets_of c.cluster.post) course)
     (start : ClaimMap) (w : World) (order : IsInOrder a.cluster.registry start w) (is_in : IsIn a.cluster w) where
   abbrev own : List Event
   own = own_events w now line
 
   -- the event of the line itself
-  first : Goes g n a.cluster.registry w a (moment begun a.disk wire) own
+  first : Goes g n a.cluster.registry w a (moment mid a.disk wire) own
   first = record {
     now = acts start w order is_in;
     moments = λ tells. started g a.disk (IsReached a.cluster.registry w own) only_now (λ img is. reached_now a.cluster.registry w own img (ready_is_of g a.disk a.cluster w ready tells is_in img is));
-    handed = λ tells. ([], handed tells ∙ append_nil (n.handed a.wire), own_given a.cluster.registry w now line);
+    handed = λ tells. ([], handed tells ∙ sym (append-nil (n.handed a.wire)), own_given a.cluster.registry w now line);
   }
 
-  pub follows : (es : List Event) × AreOf w now line es × Goes g n a.cluster.registry w a c es
+  -- what was taken is nothing where no packet was put
+  nothing_taken : (taken : List Event) → c.cluster.takes ≡ mid.takes + length taken → puts_first (begun_of w now line) ≡ false → taken ≡ []
+  nothing_taken taken count none =
+      let still = quiet (ap puts_first (begins start w order is_in) ∙ none) in
+      empty_of taken (omega (arith, count, still))
+
+  drains_all : IsTrue (puts_first (begun_of w now line)) → Drains n a.wire c.wire a.cluster.takes c.cluster.takes
+  drains_all puts tells still =
+      let drained = drains (ap puts_first (begins start w order is_in) ∙ puts) tells (λ rose. still (let on = own_faults in omega (arith, rose, on))) in
+      ⊎_elim (λ empty. inl empty) (λ all. inr (all ∙ ap (λ t. t + TAKES_A_LINE) same_takes)) drained
+
+  pub follows : (es : List Event) × AreEventsOf a.cluster.registry w now line answer es × Goes g n a.cluster.registry w a c es
+      × (IsTrue (puts_first (begun_of w now line)) → Drains n a.wire c.wire a.cluster.takes c.cluster.takes)
   follows =
       let registry = a.cluster.registry in
+      let v = run registry own w in
+      let then_in = acts start w order is_in in
       let order_then = run-in_order registry start (λ cell id found. wide_of registry ready.configured cell id found) own w order in
-      let two = hands start (run registry own w) (subst (λ r. IsInOrder r start (run registry own w)) (sym same) order_then) (acts start w order is_in) in (
+      let two = hands start v (subst (λ r. IsInOrder r start v) (sym same) order_then) then_in in
+      let goes = subst (λ r. Goes g n r v (moment mid a.disk wire) c two.0) same two.4 in
+      let is_course = two.2 ∙ ap (λ r. course_behind r v (course_of begun (length (packets_of mid.post))) two.0) same in (
         own ++ two.0,
-        record { taken = two.0; all = refl; hand_over = two.1 },
-        goes_on g n registry w a (moment begun a.disk wire) c own two.0 first (subst (λ r. Goes g n r (run registry own w) (moment begun a.disk wire) c two.0) same two.2),
+        record {
+          taken = two.0;
+          all = refl;
+          hand_over = two.1;
+          few = (let count = two.3 in omega (arith, count, few));
+          quiet = nothing_taken two.0 two.3;
+          answered = same_answer registry a.cluster mid c.cluster begun course answer now line two.0 w v is_in then_in goes.now (begins start w order is_in) refl is_course is_answer;
+        },
+        goes_on g n registry w a (moment mid a.disk wire) c own two.0 first goes,
+        drains_all,
       )

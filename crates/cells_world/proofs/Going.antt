@@ -1,6 +1,7 @@
 -- What goes from moment to moment joins.
-use Rattle.std.proofs.Common.{◌≡◌, ⊎_elim, ℕ, ◌+◌, IsTrue, List, [], ◌∷◌, ◌++◌, length, Option, Some, None, refl, sym, ◌∙◌, ap, subst, append_assoc, arith}
+use Rattle.std.proofs.Common.{◌≡◌, ⊎_elim, ℕ, ◌+◌, IsTrue, List, [], ◌∷◌, ◌++◌, length, Option, Some, None, refl, sym, ◌∙◌, ap, subst, append_assoc, length-append, arith}
 use Rattle.std.specs.List.{AllByRecursion, Contains, slice_get}
+use Rattle.std.proofs.lemmas.List.{append-nil}
 use Rattle.disk_journal.specs.declared.disk.Disk.{Ghosts}
 use Rattle.disk_journal.specs.Disk.{Image}
 use Rattle.disk_journal.proofs.Moments.{OnlyNow, started, joins, weaker}
@@ -19,18 +20,16 @@ use Rattle.claim_laws.proofs.Service.{hands_over}
 use Rattle.claim_service.specs.State.{kept}
 use Rattle.cells_base.proofs.Members.{at_place}
 use Rattle.cells_world.specs.Cluster.{IsReady}
+use Rattle.cells_world.specs.Course.{after_event, after_hand, course_behind}
 use Rattle.cells_world.specs.Post.{packets_of, IsSentAt, WasNotSent}
 use Rattle.cells_world.specs.World.{IsIn, IsOf, IsOfEither, IsReached, At, at as moment, AreGiven, IsHandOver, Goes, HandsOver, HandsAt}
 use Rattle.cells_world.specs.declared.cluster.Cluster.{Cluster}
+use Rattle.cells_world.specs.declared.course.Course.{Course}
 use Rattle.cells_world.proofs.Served.{ready_is_of}
 
 pub run_append : (registry : Registry) (es fs : List Event) (w : World) → run registry (es ++ fs) w ≡ run registry fs (run registry es w)
 run_append registry [] fs w = refl
 run_append registry (e ∷ es) fs w = run_append registry es fs (happens registry w e)
-
-append_nil : {X : Type 0} (xs : List X) → xs ≡ xs ++ []
-append_nil [] = refl
-append_nil (x ∷ xs) = ap (λ ys. x ∷ ys) (append_nil xs)
 
 module _ (registry : Registry) where
   reached_sooner : (w : World) (es fs : List Event) (img : Image) → IsReached registry w es img → IsReached registry w (es ++ fs) img
@@ -58,6 +57,12 @@ module _ (registry : Registry) where
   given_append w ps (e ∷ es) qs fs first second =
       (first.0, first.1 ++ qs, ap (λ x. x ++ qs) first.2 ∙ append_assoc first.0 first.1 qs, first.3, given_append (happens registry w e) first.1 es qs fs first.4 second)
 
+-- the course behind events and then others
+pub course_append : (registry : Registry) (es fs : List Event) (w : World) (course : Course) →
+    course_behind registry w course (es ++ fs) ≡ course_behind registry (run registry es w) (course_behind registry w course es) fs
+course_append registry [] fs w course = refl
+course_append registry (e ∷ es) fs w course = course_append registry es fs (happens registry w e) (after_event (happens registry w e).sent e course)
+
 all_append : (es fs : List Event) → AllByRecursion IsHandOver es → AllByRecursion IsHandOver fs → AllByRecursion IsHandOver (es ++ fs)
 all_append [] fs all more = more
 all_append (e ∷ es) fs all more = (all.0, all_append es fs all.1 more)
@@ -76,35 +81,44 @@ module _ {D N : Type 0} (g : Ghosts D) (n : WireGhosts N) where
   }
 
   -- THE LOOP: what hands packets over from one moment to a second and from there to a third, does so from the first to the third.
-  pub hands_on : (a b c : At D N) → b.cluster.registry ≡ a.cluster.registry → AreCells a.cluster.registry → HandsOver g n a b → HandsOver g n b c → HandsOver g n a c
-  hands_on a b c same cells first second start w order is_in =
+  pub hands_on : (x y z : Course) (a b c : At D N) → b.cluster.registry ≡ a.cluster.registry → AreCells a.cluster.registry → HandsOver g n x y a b → HandsOver g n y z b c → HandsOver g n x z a c
+  hands_on x y z a b c same cells first second start w order is_in =
       let registry = a.cluster.registry in
       let one = first start w order is_in in
       let order_then = run-in_order registry start (λ cell id found. wide_of registry cells cell id found) one.0 w order in
-      let two = second start (run registry one.0 w) (subst (λ r. IsInOrder r start (run registry one.0 w)) (sym same) order_then) one.2.now in
-      (one.0 ++ two.0, all_append one.0 two.0 one.1 two.1, goes_on registry w a b c one.0 two.0 one.2 (subst (λ r. Goes g n r (run registry one.0 w) b c two.0) same two.2))
+      let two = second start (run registry one.0 w) (subst (λ r. IsInOrder r start (run registry one.0 w)) (sym same) order_then) one.4.now in (
+        one.0 ++ two.0,
+        all_append one.0 two.0 one.1 two.1,
+        two.2 ∙ ap (λ r. course_behind r (run registry one.0 w) y two.0) same ∙ ap (λ q. course_behind registry (run registry one.0 w) q two.0) one.2 ∙ sym (course_append registry one.0 two.0 w x),
+        (let first_takes = one.3 in let then_takes = two.3 in let both = length-append one.0 two.0 in omega (arith, first_takes, then_takes, both)),
+        goes_on registry w a b c one.0 two.0 one.4 (subst (λ r. Goes g n r (run registry one.0 w) b c two.0) same two.4),
+      )
 
   -- nothing was handed over
-  pub hands_nothing : (a : At D N) → OnlyNow g → IsReady g a.disk a.cluster → HandsOver g n a a
-  hands_nothing a only_now ready start w order is_in = (
+  pub hands_nothing : (x : Course) (a : At D N) → OnlyNow g → IsReady g a.disk a.cluster → HandsOver g n x x a a
+  hands_nothing x a only_now ready start w order is_in = (
     [],
     tt,
+    refl,
+    omega arith,
     record {
       now = is_in;
       moments = λ tells. started g a.disk (IsReached a.cluster.registry w []) only_now (λ img is. reached_now a.cluster.registry w [] img (ready_is_of g a.disk a.cluster w ready tells is_in img is));
-      handed = λ tells. ([], append_nil (n.handed a.wire), refl);
+      handed = λ tells. ([], sym (append-nil (n.handed a.wire)), refl);
     },
   )
 
   -- a take gave nothing
-  pub hands_none : (a : At D N) (wire : N) → OnlyNow g → IsReady g a.disk a.cluster → (IsTrue n.tells → n.handed wire ≡ n.handed a.wire) → HandsOver g n a (moment a.cluster a.disk wire)
-  hands_none a wire only_now ready same start w order is_in = (
+  pub hands_none : (x : Course) (a : At D N) (wire : N) → OnlyNow g → IsReady g a.disk a.cluster → (IsTrue n.tells → n.handed wire ≡ n.handed a.wire) → HandsOver g n x x a (moment a.cluster a.disk wire)
+  hands_none x a wire only_now ready same start w order is_in = (
     [],
     tt,
+    refl,
+    omega arith,
     record {
       now = is_in;
       moments = λ tells. started g a.disk (IsReached a.cluster.registry w []) only_now (λ img is. reached_now a.cluster.registry w [] img (ready_is_of g a.disk a.cluster w ready tells is_in img is));
-      handed = λ tells. ([], same tells ∙ append_nil (n.handed a.wire), refl);
+      handed = λ tells. ([], same tells ∙ sym (append-nil (n.handed a.wire)), refl);
     },
   )
 
@@ -139,9 +153,9 @@ counted_of registry img w m is = record { service = is.service; stores = is.stor
 
 module _ {D N : Type 0} (g : Ghosts D) (n : WireGhosts N) (a : At D N) (b : Cluster) (given : WirePacket) (one : CountsOne a.cluster b) where
   -- a packet that was sent here is handed to its receiver
-  pub hands_sent : (place : ℕ) (c : At D N) (v : N) → IsSentAt a.cluster.post place given → HandsAt g place (moment b a.disk v) c → (IsTrue n.tells → n.handed c.wire ≡ n.handed a.wire ++ given ∷ []) → HandsOver g n a c
+  pub hands_sent : (x y : Course) (place : ℕ) (c : At D N) (v : N) → IsSentAt a.cluster.post place given → HandsAt g place (moment b a.disk v) c → y ≡ after_hand (packets_of c.cluster.post) place x → c.cluster.takes ≡ b.takes → (IsTrue n.tells → n.handed c.wire ≡ n.handed a.wire ++ given ∷ []) → HandsOver g n x y a c
   unfolding happens
-  hands_sent place c v found handing handed start w order is_in =
+  hands_sent x y place c v found handing after takes handed start w order is_in =
       let registry = a.cluster.registry in
       let p = found.0 in
       let in_place : slice_get w.sent place ≡ Some p = ap (λ ps. slice_get ps place) is_in.sent ∙ found.1 in
@@ -152,6 +166,8 @@ module _ {D N : Type 0} (g : Ghosts D) (n : WireGhosts N) (a : At D N) (b : Clus
       ap (λ o. after_packet registry (place + 1) o w) in_place ∙ ap (λ r. after_message r (place + 1) p.message (with_handed (Some p.message) w)) (sym one.registry) in (
         hands place ∷ [],
         (tt, tt),
+        after ∙ ap (λ ps. after_hand ps place x) (sym leads.now.sent ∙ ap (λ (u : World). u.sent) (sym comes)),
+        takes ∙ one.takes,
         record {
           now = subst (IsIn c.cluster) (sym comes) leads.now;
           moments = weaker g a.disk c.disk (IsOfEither b.registry (with_handed (Some p.message) w) (after_message b.registry (place + 1) p.message (with_handed (Some p.message) w))) (IsReached registry w (hands place ∷ [])) leads.moments
@@ -164,11 +180,13 @@ module _ {D N : Type 0} (g : Ghosts D) (n : WireGhosts N) (a : At D N) (b : Clus
       )
 
   -- one that nobody here sent is dropped
-  pub hands_stray : (wire : N) → OnlyNow g → IsReady g a.disk a.cluster → WasNotSent a.cluster.post given → (IsTrue n.tells → n.handed wire ≡ n.handed a.wire ++ given ∷ []) → HandsOver g n a (moment b a.disk wire)
+  pub hands_stray : (x : Course) (wire : N) → OnlyNow g → IsReady g a.disk a.cluster → WasNotSent a.cluster.post given → (IsTrue n.tells → n.handed wire ≡ n.handed a.wire ++ given ∷ []) → HandsOver g n x x a (moment b a.disk wire)
   unfolding happens
-  hands_stray wire only_now ready missing handed start w order is_in = (
+  hands_stray x wire only_now ready missing handed start w order is_in = (
     strays ∷ [],
     (tt, tt),
+    refl,
+    one.takes,
     record {
       now = counted_in a.cluster b w None is_in one;
       moments = λ tells. started g a.disk (IsReached a.cluster.registry w (strays ∷ [])) only_now (λ img is. reached_now a.cluster.registry w (strays ∷ []) img (ready_is_of g a.disk a.cluster w ready tells is_in img is));

@@ -17,3 +17,5 @@ pub mod Reconcile
 pub mod Wanting
 pub mod Following
 pub mod Growing
+pub mod Begun
+pub mod Putting

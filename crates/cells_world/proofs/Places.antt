@@ -8,7 +8,7 @@ use Rattle.cells_base.proofs.Maps.{same_or_other}
 use Rattle.cells_base.proofs.Members.{at_place}
 use Rattle.claim_map.specs.Registry.{Registry}
 use Rattle.reconciler.specs.declared.agent.CellAgent.{CellAgent}
-use Rattle.cells_world.specs.Cluster.{AreAgentsOf, PutsOne}
+use Rattle.cells_world.specs.Cluster.{AreAgentsOf, IsPlaceOf, PutsOne}
 
 module _ {X : Type 0} where
   set_here : (xs : List X) (n : ℕ) (x y : X) → slice_get xs n ≡ Some y → slice_get (set xs n x) n ≡ Some x
@@ -29,6 +29,10 @@ module _ {X : Type 0} where
 
 pub same_some : {X : Type 0} (x y : X) → Some x ≡ Some y → x ≡ y
 same_some x y is = cc
+
+-- the agent that was found for a cell
+pub found_agent : (cells read : List CellAgent) → read ≡ cells → (cell place : ℕ) → IsPlaceOf read cell place → (k : CellAgent) × Contains cells k × (k.store.cell ≡ cell)
+found_agent cells read same cell place found = (found.0, at_place cells place found.0 (ap (λ xs. slice_get xs place) (sym same) ∙ found.1), found.2)
 
 module _ (registry : Registry) (cells : List CellAgent) (n : ℕ) (k now : CellAgent) (agents : AreAgentsOf registry cells) (here : slice_get cells n ≡ Some k) (same : now.store.cell ≡ k.store.cell) where
   at_now : slice_get (set cells n now) n ≡ Some now

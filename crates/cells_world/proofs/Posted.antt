@@ -44,7 +44,7 @@ module _ (post : Post) (given : WirePacket) (k : ℕ) (s : Sent) (are : ArePacke
       let packet : p ≡ packet_of s = same_some p (packet_of s) (sym there ∙ ap (slice_get (packets_of post)) same ∙ mapped packet_of post.sent.items k s here) in
       other (sym is ∙ ap (λ n. spelled n p) same ∙ ap (spelled k) packet ∙ sym (are k s here).spelled)
 
-map_length : {X Y : Type 0} (f : X → Y) (xs : List X) → length (list_map f xs) ≡ length xs
+pub map_length : {X Y : Type 0} (f : X → Y) (xs : List X) → length (list_map f xs) ≡ length xs
 map_length f [] = refl
 map_length f (x ∷ xs) = let rest = map_length f xs in omega (arith, rest)
 

@@ -28,13 +28,12 @@ use Rattle.reconciler.specs.Agent.{kept_by, IsAgent, IsReady as IsAgentReady}
 use Rattle.reconciler.specs.declared.agent.CellAgent.{CellAgent}
 use Rattle.reconciler.proofs.Asking.{length-keys}
 use Rattle.cells_world.specs.Cluster.{IsReady, AreAgentsOf, Lacks, PutsOne}
-use Rattle.cells_world.specs.Lines.{DrewFewer}
 use Rattle.cells_world.specs.Post.{packets_of, ArePackets, AreRequests}
 use Rattle.cells_world.specs.Serving.{IsServing}
 use Rattle.cells_world.specs.World.{IsIn}
 use Rattle.cells_world.specs.declared.cluster.Cluster.{Cluster}
 use Rattle.cells_world.proofs.Acting.{acted_in, unknown}
-use Rattle.cells_world.proofs.Sending.{append_nil}
+use Rattle.std.proofs.lemmas.List.{append-nil}
 
 module _ {D : Type 0} (g : Ghosts D) (d : D) (old new : Cluster) (ready : IsReady g d old) (registry : new.registry ≡ old.registry) (packets : ArePackets new.post)
     (k now : CellAgent) (inside : Contains old.cells.items k) (same : now.store ≡ k.store) (threshold : now.threshold ≡ k.threshold) (is_agent : IsAgent now) where
@@ -89,11 +88,6 @@ without_more : (xs : List LeaseId) (x : LeaseId) (a : Agent) → without_attempt
 without_more [] x a = refl
 without_more (y ∷ ys) x a = without_more ys x (without_attempt a y)
 
--- attempts that end leave how many were drawn
-drawn_stays : (xs : List LeaseId) (a : Agent) → (without_attempts xs a).drawn ≡ a.drawn
-drawn_stays [] a = refl
-drawn_stays (x ∷ xs) a = drawn_stays xs (without_attempt a x)
-
 -- so many of the attempts that are due have ended, each with a note, and the others are due still
 pub record EndsSome (threshold now ended : ℕ) (before after : Agent) (noted notes : List Note) : Type 0 where
   pub done : List LeaseId
@@ -107,7 +101,7 @@ module _ (threshold now : ℕ) (before : Agent) (noted : List Note) where
   due a = due_attempts threshold now a
 
   pub ends_none : EndsSome threshold now 0 before before noted noted
-  ends_none = record { done = []; cut = refl; count = refl; kept = refl; told = append_nil noted }
+  ends_none = record { done = []; cut = refl; count = refl; kept = refl; told = sym (append-nil noted) }
 
   module _ (count : ℕ) (after : Agent) (notes : List Note) (ends : EndsSome threshold now count before after noted notes) where
     -- one more ends
@@ -125,7 +119,7 @@ module _ (threshold now : ℕ) (before : Agent) (noted : List Note) where
     -- none is left
     module _ (left : due after ≡ []) where
       all_done : ends.done ≡ due before
-      all_done = append_nil ends.done ∙ ap (λ x. ends.done ++ x) (sym left) ∙ sym ends.cut
+      all_done = sym (append-nil ends.done) ∙ ap (λ x. ends.done ++ x) (sym left) ∙ sym ends.cut
 
       pub ends_kept : after ≡ without_attempts (due before) before
       ends_kept = ends.kept ∙ ap (λ x. without_attempts x before) all_done
@@ -175,10 +169,3 @@ module _ (old new : Cluster) (now : ℕ) (w : World) (is_in : IsIn old w) where
         (subst (IsIn new) (sym comes)
         (acted_in old new k after inside store_same puts service trace takes (list_map packet_of (ask_reconcile k.store.cell (kept_by k))) (list_map (λ l. EndedNote l) due) sent notes
         w is_in (without_attempts due (kept_by k)) ended)))
-
--- a reconciliation draws nothing
-pub reconciles_drawn : (old new : Cluster) (k after : CellAgent) (xs : List LeaseId) → Contains old.cells.items k → PutsOne old.cells.items after new.cells.items → kept_by after ≡ without_attempts xs (kept_by k) → (most : ℕ) → DrewFewer most old → DrewFewer most new
-reconciles_drawn old new k after xs inside puts ended most drew a there = ⊎_elim
-    (λ (is : a ≡ after). subst (λ n. n < most) (sym (ap (λ (x : CellAgent). (kept_by x).drawn) is ∙ ap (λ (x : Agent). x.drawn) ended ∙ drawn_stays xs (kept_by k))) (drew k inside))
-    (λ other. drew a other.0)
-    (puts.each a there)

@@ -1,5 +1,6 @@
 -- What was sent from moment to moment joins.
 use Rattle.std.proofs.Common.{◌≡◌, ℕ, ◌+◌, Bool, true, false, cond, IsTrue, List, [], ◌∷◌, ◌++◌, length, refl, sym, ◌∙◌, ap, append_assoc, length-append, arith}
+use Rattle.std.proofs.lemmas.List.{append-nil}
 use Rattle.cells_edge.specs.declared.wire.Packet.{Packet as WirePacket}
 use Rattle.cells_edge.specs.declared.wire.Wire.{Ghosts}
 use Rattle.claim_laws.specs.World.{Packet}
@@ -7,17 +8,17 @@ use Rattle.cells_world.specs.Packets.{spelled, spelled_from, is_lost, after_put,
 use Rattle.cells_world.specs.Post.{packets_of, Sends}
 use Rattle.cells_world.specs.declared.post.Post.{Post}
 
-spelled_append : (k : ℕ) (ps qs : List Packet) → spelled_from k (ps ++ qs) ≡ spelled_from k ps ++ spelled_from (k + length ps) qs
+pub spelled_append : (k : ℕ) (ps qs : List Packet) → spelled_from k (ps ++ qs) ≡ spelled_from k ps ++ spelled_from (k + length ps) qs
 spelled_append k [] qs = let e : k ≡ k + 0 = omega arith in ap (λ n. spelled_from n qs) e
 spelled_append k (p ∷ ps) qs =
     let e : (k + 1) + length ps ≡ k + length (p ∷ ps) = omega arith in
     ap (λ x. spelled k p ∷ x) (spelled_append (k + 1) ps qs ∙ ap (λ n. spelled_from (k + 1) ps ++ spelled_from n qs) e)
 
-puts_append : {X : Type 0} (ps qs : List X) (armed : List ℕ) → after_puts (ps ++ qs) armed ≡ after_puts qs (after_puts ps armed)
+pub puts_append : {X : Type 0} (ps qs : List X) (armed : List ℕ) → after_puts (ps ++ qs) armed ≡ after_puts qs (after_puts ps armed)
 puts_append [] qs armed = refl
 puts_append (p ∷ ps) qs armed = puts_append ps qs (after_put armed)
 
-puts_spelled : (k : ℕ) (ps : List Packet) (armed : List ℕ) → after_puts (spelled_from k ps) armed ≡ after_puts ps armed
+pub puts_spelled : (k : ℕ) (ps : List Packet) (armed : List ℕ) → after_puts (spelled_from k ps) armed ≡ after_puts ps armed
 puts_spelled k [] armed = refl
 puts_spelled k (p ∷ ps) armed = puts_spelled (k + 1) ps (after_put armed)
 
@@ -25,13 +26,9 @@ through_one : (b : Bool) (x : WirePacket) (all xs ys : List WirePacket) → all 
 through_one true x all xs ys is = is
 through_one false x all xs ys is = ap (λ z. x ∷ z) is
 
-through_append : (armed : List ℕ) (xs ys : List WirePacket) → let_through armed (xs ++ ys) ≡ let_through armed xs ++ let_through (after_puts xs armed) ys
+pub through_append : (armed : List ℕ) (xs ys : List WirePacket) → let_through armed (xs ++ ys) ≡ let_through armed xs ++ let_through (after_puts xs armed) ys
 through_append armed [] ys = refl
 through_append armed (x ∷ xs) ys = through_one (is_lost armed) x (let_through (after_put armed) (xs ++ ys)) (let_through (after_put armed) xs) (let_through (after_puts xs (after_put armed)) ys) (through_append (after_put armed) xs ys)
-
-pub append_nil : {X : Type 0} (xs : List X) → xs ≡ xs ++ []
-append_nil [] = refl
-append_nil (x ∷ xs) = ap (λ ys. x ∷ ys) (append_nil xs)
 
 module _ {N : Type 0} (n : Ghosts N) where
   pub sends_on : (a b c : N) (p q r : Post) (ps qs : List Packet) → Sends n a b p q ps → Sends n b c q r qs → Sends n a c p r (ps ++ qs)
@@ -54,7 +51,7 @@ module _ {N : Type 0} (n : Ghosts N) where
   -- nothing was sent
   pub sends_nothing : (a b : N) (p q : Post) → packets_of q ≡ packets_of p → q.armed.items ≡ p.armed.items → (IsTrue n.tells → n.sent b ≡ n.sent a) → Sends n a b p q []
   sends_nothing a b p q sent armed same = record {
-    sent = sent ∙ append_nil (packets_of p);
-    put = λ tells. same tells ∙ append_nil (n.sent a);
+    sent = sent ∙ sym (append-nil (packets_of p));
+    put = λ tells. same tells ∙ sym (append-nil (n.sent a));
     armed = armed;
   }

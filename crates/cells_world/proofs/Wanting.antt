@@ -40,7 +40,7 @@ use Rattle.cells_world.specs.Wanted.{change_wanted}
 use Rattle.cells_world.specs.World.{AreGiven, IsIn, IsCellIn}
 use Rattle.cells_world.specs.declared.cluster.Cluster.{Cluster}
 use Rattle.cells_world.proofs.Acting.{acted_in, sent_in}
-use Rattle.cells_world.proofs.Sending.{append_nil}
+use Rattle.std.proofs.lemmas.List.{append-nil}
 
 -- ranges that rise are no more than the identifiers
 rising_few : (last : ℕ) (rs : List Range) → AreRising last rs → ((r : Range) → Contains rs r → IsRange r) → last ≤ GREATEST_IDENTIFIER → last + length rs ≤ GREATEST_IDENTIFIER
@@ -167,8 +167,8 @@ module _ (old : Cluster) (w : World) (registry : Registry) (k : CellAgent) (chan
       IsIn new (happens registry w (asks k.store.cell change now))
   asked_in new after x ok store kept puts service trace takes sent notes =
       let ps = packet_of (Begin x.lease x.ops) ∷ [] in
-      let acted = acted_in old new k after inside store puts service trace takes ps [] sent (notes ∙ append_nil old.notes.items) w is_in x.agent kept in
-      subst (IsIn new) (ap (λ all. record (with_agent k.store.cell x.agent w) { sent = w.sent ++ ps; notes = all }) (sym (append_nil w.notes)) ∙ ap (λ r. with_asked k.store.cell r w) (sym ok) ∙ sym ask_comes) acted
+      let acted = acted_in old new k after inside store puts service trace takes ps [] sent (notes ∙ sym (append-nil old.notes.items)) w is_in x.agent kept in
+      subst (IsIn new) (ap (λ all. record (with_agent k.store.cell x.agent w) { sent = w.sent ++ ps; notes = all }) (sym (sym (append-nil w.notes))) ∙ ap (λ r. with_asked k.store.cell r w) (sym ok) ∙ sym ask_comes) acted
 
   -- one does: the agent keeps what it kept
   pub refused_in : (new : Cluster) (after : CellAgent) (rule : Rule) → answered ≡ Err rule → after.store ≡ k.store → kept_by after ≡ kept_by k → PutsOne old.cells.items after new.cells.items →

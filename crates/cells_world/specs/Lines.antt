@@ -1,9 +1,6 @@
--- What the lines of a script bring about: the event of a line, and then packets that are handed over.
-use Rattle.std.specs.Prelude.{◌≡◌, ◌<◌, ℕ, ◌+◌, IsSome, List, [], ◌∷◌, ◌++◌, min, Option, Some, None}
-use Rattle.std.specs.List.{AllByRecursion, Contains}
+-- What the lines of a script bring about of themselves.
+use Rattle.std.specs.Prelude.{ℕ, ◌+◌, IsSome, List, [], ◌∷◌, min, Option, Some, None}
 use Rattle.std.specs.FinMap as map
-use Rattle.disk_journal.specs.declared.disk.Disk.{Ghosts}
-use Rattle.cells_edge.specs.declared.wire.Wire.{Ghosts as WireGhosts}
 use Rattle.claim_types.specs.declared.limits.TheConstants.{GREATEST_NUMBER}
 use Rattle.claim_types.specs.declared.record.Change.{Change}
 use Rattle.claim_map.specs.State.{ClaimMap, tree_of}
@@ -13,9 +10,7 @@ use Rattle.claim_laws.specs.Nodes.{Agent, ask_range}
 use Rattle.claim_laws.specs.World.{World}
 use Rattle.cells_script.specs.declared.line.Line.{Line}
 use Rattle.cells_script.specs.declared.line.Line.TheVariants.{CreateOrganization, CreateUser, CreateTopGroup, CreateGroup, CreateProject, CreateKey, CreateAddress, CreateDomain, Rename, Remove, Range, Reconcile, Lose, Repeat, Wait}
-use Rattle.reconciler.specs.Agent.{kept_by}
-use Rattle.reconciler.specs.declared.agent.CellAgent.{CellAgent}
-use Rattle.cells_world.specs.World.{At, Goes, IsHandOver, IsIn}
+use Rattle.cells_world.specs.World.{IsIn}
 use Rattle.cells_world.specs.Wanted.{change_wanted}
 use Rattle.cells_world.specs.declared.cluster.Cluster.{Cluster}
 
@@ -51,12 +46,9 @@ asks_range cell number (Some a) = requests (ask_range cell a number) ∷ []
 abbrev pub own_events : World → ℕ → Line → List Event
 own_events w now (Range cell number) = asks_range cell number (map.get w.agents cell)
 own_events w now (Reconcile cell) = reconciles cell now ∷ []
-own_events w now (Lose number) = []
-own_events w now (Repeat tag) = []
-own_events w now (Wait seconds) = []
 own_events w now line = asks_of w now line (cell_of_change line)
 
--- What a line does of itself, from any world in order that the cluster is in: its own event, and nothing to the files.
+-- What a line does of itself at this moment, from any world in order that the cluster is in: its own event.
 abbrev pub Acts : ℕ → Line → Cluster → Cluster → Type 0
 Acts now line old new =
     (start : ClaimMap) (w : World) → IsInOrder old.registry start w → IsIn old w → IsIn new (run old.registry (own_events w now line) w)
@@ -74,18 +66,7 @@ IsBuilt line = IsSome (cell_of_change line)
 abbrev pub moment_of : Cluster → ℕ → ℕ
 moment_of c now = min (now + c.waited) GREATEST_NUMBER
 
--- the events of a line: its own, and then packets that are handed over
-pub record AreOf (w : World) (now : ℕ) (line : Line) (es : List Event) : Type 0 where
-  pub taken : List Event
-  pub all : es ≡ own_events w now line ++ taken
-  pub hand_over : AllByRecursion IsHandOver taken
-
--- What a line that is answered brings about, from any world in order that the cluster is in.
-abbrev pub Follows : {D N : Type 0} → Ghosts D → WireGhosts N → ℕ → Line → At D N → At D N → Type 0
-Follows g n now line old new =
-    (start : ClaimMap) (w : World) → IsInOrder old.cluster.registry start w → IsIn old.cluster w →
-    (es : List Event) × AreOf w (moment_of old.cluster now) line es × Goes g n old.cluster.registry w old new es
-
--- each cell has drawn fewer attempts in its epoch
-abbrev pub DrewFewer : ℕ → Cluster → Type 0
-DrewFewer most c = (a : CellAgent) → Contains c.cells.items a → (kept_by a).drawn < most
+-- how long was waited once a line was done, as far as the count goes
+abbrev pub waited_by : Line → ℕ → ℕ
+waited_by (Wait seconds) waited = min (waited + seconds) GREATEST_NUMBER
+waited_by other waited = waited

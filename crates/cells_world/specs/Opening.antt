@@ -89,6 +89,17 @@ IsOpenEnd g registry old new (Err (DiskFailed file)) = FailedAt g file old new
 IsOpenEnd g registry old new (Err Memory) = Unit {0}
 IsOpenEnd g registry old new (Err (Damaged file fault)) = IsTrue g.tells → StandsStill g old new → IsDamage registry (g.seen old) file fault
 
+-- calls of the disk on this file failed, and then they failed again
+pub record FailedTwice {D : Type 0} (g : Ghosts D) (file : ℕ) (old new : D) : Type 0 where
+  pub between : D
+  pub first : FailedAt g file old between
+  pub again : FailedAt g file between new
+
+-- a file whose opening failed was tried once more: no opening fails but where it failed twice
+abbrev pub FailsTwice : {D : Type 0} → Ghosts D → D → D → ClusterError → Type 0
+FailsTwice g old new (DiskFailed file) = FailedTwice g file old new
+FailsTwice g old new other = Unit {0}
+
 -- a store that was just opened: it is live and at rest, and each row of it is of an earlier epoch
 pub record IsStoreReady {D : Type 0} (g : Ghosts D) (d : D) (cell : ℕ) (s : CellStore) : Type 0 where
   pub of_cell : s.cell ≡ cell

@@ -22,9 +22,11 @@ use Rattle.claim_service.specs.declared.limits.TheConstants.{SERVICE_FILE}
 use Rattle.cell_store.specs.Store.{store, stored}
 use Rattle.reconciler.specs.Agent.{kept_by}
 use Rattle.reconciler.specs.declared.agent.CellAgent.{CellAgent}
+use Rattle.cells_world.specs.Course.{course_behind}
 use Rattle.cells_world.specs.Packets.{spelled}
 use Rattle.cells_world.specs.Post.{packets_of}
 use Rattle.cells_world.specs.declared.cluster.Cluster.{Cluster}
+use Rattle.cells_world.specs.declared.course.Course.{Course}
 
 -- a cell is in a world: its records and what it keeps are those that the world says
 pub record IsCellIn (w : World) (a : CellAgent) : Type 0 where
@@ -100,8 +102,9 @@ IsHandOver (hands n) = Unit {0}
 IsHandOver strays = Unit {0}
 IsHandOver other = ⊥
 
--- What a call that hands packets over brings about, from any world in order that the cluster is in.
-abbrev pub HandsOver : {D N : Type 0} → Ghosts D → WireGhosts N → At D N → At D N → Type 0
-HandsOver g n old new =
+-- What a call that hands packets over brings about, from any world in order that the cluster is in: one event for each that it takes, and the
+-- line's course is the one behind these events.
+abbrev pub HandsOver : {D N : Type 0} → Ghosts D → WireGhosts N → Course → Course → At D N → At D N → Type 0
+HandsOver g n before after old new =
     (start : ClaimMap) (w : World) → IsInOrder old.cluster.registry start w → IsIn old.cluster w →
-    (es : List Event) × AllByRecursion IsHandOver es × Goes g n old.cluster.registry w old new es
+    (es : List Event) × AllByRecursion IsHandOver es × (after ≡ course_behind old.cluster.registry w before es) × (new.cluster.takes ≡ old.cluster.takes + length es) × Goes g n old.cluster.registry w old new es

@@ -7,21 +7,23 @@ ghost use Rattle.cells_world.specs.Packets.{message_of};
 ghost use Rattle.cells_world.specs.Post.{packets_of, ArePackets, Sends, SendsSome};
 ghost use Rattle.claim_service.specs.State.{kept};
 ghost use Rattle.std.specs.FinMap as map;
-ghost use Rattle.cells_world.specs.Lines.{Acts, Follows, IsBuilt, cell_of_change, moment_of};
-ghost use Rattle.cells_script.specs.declared.line.Line.TheVariants.{Range as LineRange, Reconcile};
-ghost use Rattle.claim_types.specs.Bounds.{IsRangeNumber};
+ghost use Rattle.cells_world.specs.Answers.{Begins, begun_on_wire, begun_repeat};
+ghost use Rattle.cells_world.specs.Follows.{Drains, Follows, IsDrained};
+ghost use Rattle.cells_world.specs.Lines.{Acts, IsBuilt, cell_of_change, moment_of, waited_by};
+ghost use Rattle.cells_world.specs.Puts.{PutsFor};
+ghost use Rattle.cells_script.specs.declared.line.Line.TheVariants.{Range as LineRange, Reconcile, Repeat};
 ghost use Rattle.claim_types.specs.MessageBounds.{IsRequest};
 ghost use Rattle.claim_types.specs.declared.rule.Note.TheVariants.{Ended as EndedNote};
-ghost use Rattle.claim_types.specs.declared.rule.Rule.TheVariants.{Memory as RuleMemory};
 ghost use Rattle.claim_laws.specs.Acts.{packet_of as asked_packet};
 ghost use Rattle.claim_laws.specs.Nodes.{due_attempts, without_attempts};
 ghost use Rattle.reconciler.specs.Agent.{kept_by, IsAgent, IsSameAgent};
 ghost use Rattle.cells_world.specs.Ending.{GoesOn, NotesMore};
-ghost use Rattle.cells_world.specs.Opening.{IsNew, IsOpenEnd, Opens, StandsStill};
+ghost use Rattle.cells_world.specs.Opening.{FailsTwice, IsNew, IsOpenEnd, Opens, StandsStill};
 ghost use Rattle.cells_world.specs.declared.limits.TheConstants.{MOST_TAKES, TAKES_A_LINE};
 ghost use Rattle.cells_world.specs.Cluster.{IsReady, IsPlaceOf, Lacks, noted_by, traced_by, IsEndOf, IsSameBeside, IsSameButWire, IsSameCluster, SendsOnly};
 ghost use Rattle.cells_world.specs.World.{at as moment, HandsAt, HandsOver};
 
+use crate::answer::{Begun, is_tag, is_zero, refused};
 use crate::course::Course;
 use crate::fault::ClusterError;
 use crate::hear::hear;
@@ -32,16 +34,13 @@ use crate::post::Post;
 use crate::serve::serve;
 use crate::wanted::change_wanted;
 use cell_registry::Registry;
-use cells_base::NoMemory;
+use cells_base::{NoMemory, behind};
 use cells_edge::{Wire, WireError};
 use cells_script::{Answer, Line};
 use claim_service::TopologyNode;
-use claim_types::{
-    BegunResult, Ended, GREATEST_ATTEMPT, LeaseId, Note, RangedResult, Reply, Request, Rule, Step,
-    Transition,
-};
+use claim_types::{Ended, GREATEST_ATTEMPT, Note, Request, Step, Transition};
 use disk_journal::Disk;
-use reconciler::{CellAgent, copy_of_denial};
+use reconciler::CellAgent;
 use std::alloc::Global;
 
 /// The service and the cells of a configuration, over one disk, and what they sent to one another.
@@ -56,20 +55,6 @@ pub struct Cluster {
     takes: u64,
     // Seconds, by the lines that wait.
     waited: u64,
-    course: Course,
-}
-
-// What the event of a line came to.
-#[derive(Drop)]
-enum Begun {
-    // The line is answered.
-    Told(Answer),
-    // A change was asked for, with this lease.
-    Asked(LeaseId),
-    // A range was asked for.
-    Range,
-    // A reconciliation began.
-    Reconciles,
 }
 
 // The cell of a line that asks for a change.
@@ -91,35 +76,6 @@ fn cell_of_change(line: &Line) -> Option<u16>
     }
 }
 
-// Whether a number is given and is 0, which numbers no range.
-fn is_zero(number: Option<u64>) -> bool
-    ensures zero { IsTrue result → number ≡ Some 0 }
-    ensures other { result ≡ false → IfSome number IsRangeNumber }
-{
-    match number {
-        Some(number) => number == 0,
-        None => false,
-    }
-}
-
-// What the event of a line came to, where it sent this request.
-fn begun_by(request: &Request) -> Begun {
-    match request {
-        Request::Begin { lease, .. } => Begun::Asked(*lease),
-        _ => Begun::Range,
-    }
-}
-
-// The answer to a line whose change this rule refuses.
-fn refused(rule: Rule) -> Result<Answer, NoMemory>
-    ensures { OnOk result (rule ≢ RuleMemory) }
-{
-    match rule {
-        Rule::Memory => Err(NoMemory),
-        _ => Ok(Answer::Refused { rule }),
-    }
-}
-
 // Ends the attempts of an agent that are due at this moment, each with a note.
 fn end_due(agent: &mut CellAgent, notes: &mut Vec<Note>, now: u64) -> Result<(), NoMemory>
     requires agent { IsAgent agent.old }
@@ -138,57 +94,6 @@ fn end_due(agent: &mut CellAgent, notes: &mut Vec<Note>, now: u64) -> Result<(),
         notes.push(Note::Ended { lease })?;
     }
     Ok(())
-}
-
-// What stands behind so many in a list.
-fn behind<'a, T>(all: &'a [T], count: usize) -> &'a [T] {
-    if count <= all.len() {
-        &all[count..]
-    } else {
-        all
-    }
-}
-
-// Whether the change of this lease is recorded among these transitions.
-fn is_recorded(steps: &[Transition], lease: LeaseId) -> bool {
-    steps.iter().any(|transition| match &transition.step {
-        Step::Recorded { lease: of, .. } => *of == lease,
-        _ => false,
-    })
-}
-
-// The versions of a change of records in these notes by which the attempt with this lease ended.
-fn change_since(notes: &[Note], lease: LeaseId) -> Option<(u64, u64)> {
-    for note in notes {
-        if let Note::Changed {
-            lease: of,
-            then,
-            now,
-        } = note
-        {
-            if *of == lease {
-                return Some((*then, *now));
-            }
-        }
-    }
-    None
-}
-
-// What a line comes to that asked for a range, by the reply.
-fn answer_of_range(reply: Option<&Reply>) -> Answer {
-    match reply {
-        Some(Reply::Ranged { number, result, .. }) => match result {
-            RangedResult::Good { low, high } => Answer::Ranged {
-                number: *number,
-                low: *low,
-                high: *high,
-            },
-            RangedResult::UnknownCell => Answer::NoCell,
-            RangedResult::TooFar { next } => Answer::TooFar { next: *next },
-            RangedResult::Exhausted { last } => Answer::Exhausted { last: *last },
-        },
-        _ => Answer::Waiting { lease: None },
-    }
 }
 
 // The place of the agent of a cell.
@@ -276,23 +181,27 @@ impl Cluster {
         }
     }
 
-    // Takes a packet, and hands it to its receiver if it was sent here. Whether one was given.
+    // Takes a packet, and hands it to its receiver if it was sent here; the line's course goes on. Whether one was given.
     fn take_one<D: Disk, N: Wire>(
         &mut self,
         alloc: Global,
         disk: &mut D,
         wire: &mut N,
         now: u64,
+        course: &mut Course,
     ) -> Result<bool, ClusterError>
         requires ready { IsReady D.Disk disk.old self.old }
         requires takes { self.old.takes < 2 ^ 63 - 1 }
         ensures hands { OnOk result
-            (HandsOver D.Disk N.Wire (moment self.old disk.old wire.old) (moment self.new disk.new wire.new)) }
+            (HandsOver D.Disk N.Wire course.old course.new
+            (moment self.old disk.old wire.old) (moment self.new disk.new wire.new)) }
         ensures sends { OnOk result (SendsSome N.Wire wire.old wire.new self.old.post self.new.post) }
         ensures ready { OnOk result (IsReady D.Disk disk.new self.new) }
         ensures end { IsEndOf D.Disk disk.old disk.new result }
         ensures grows { OnOk result (GoesOn self.old self.new) }
         ensures takes { self.new.takes ≤ self.old.takes + 1 }
+        ensures given { IfOk result (λ given. IsTrue given → self.new.takes ≡ self.old.takes + 1) }
+        ensures drained { IfOk result (λ given. given ≡ false → IsDrained N.Wire wire.old wire.new) }
         ensures registry { self.new.registry ≡ self.old.registry }
         ensures waited { self.new.waited ≡ self.old.waited }
         ensures later { (D.faults disk.old ≤ D.faults disk.new) × (N.faults wire.old ≤ N.faults wire.new) }
@@ -306,8 +215,8 @@ impl Cluster {
         self.takes += 1;
         match self.post.place_of(&packet) {
             Some(at) => {
-                self.course = self.course.after(&self.post, at);
                 self.hand(alloc, disk, wire, at, now)?;
+                *course = course.after(&self.post, at);
                 Ok(true)
             }
             None => Ok(true),
@@ -321,11 +230,48 @@ impl Cluster {
         disk: &mut D,
         wire: &mut N,
         now: u64,
+        course: &mut Course,
     ) -> Result<(), ClusterError>
         requires ready { IsReady D.Disk disk.old self.old }
         requires takes { self.old.takes < 2 ^ 63 - TAKES_A_LINE }
         ensures hands { OnOk result
-            (HandsOver D.Disk N.Wire (moment self.old disk.old wire.old) (moment self.new disk.new wire.new)) }
+            (HandsOver D.Disk N.Wire course.old course.new
+            (moment self.old disk.old wire.old) (moment self.new disk.new wire.new)) }
+        ensures sends { OnOk result (SendsSome N.Wire wire.old wire.new self.old.post self.new.post) }
+        ensures ready { OnOk result (IsReady D.Disk disk.new self.new) }
+        ensures end { IsEndOf D.Disk disk.old disk.new result }
+        ensures grows { OnOk result (GoesOn self.old self.new) }
+        ensures takes { self.new.takes ≤ self.old.takes + TAKES_A_LINE }
+        ensures drains { OnOk result (Drains N.Wire wire.old wire.new self.old.takes self.new.takes) }
+        ensures registry { self.new.registry ≡ self.old.registry }
+        ensures waited { self.new.waited ≡ self.old.waited }
+        ensures later { (D.faults disk.old ≤ D.faults disk.new) × (N.faults wire.old ≤ N.faults wire.new) }
+    {
+        for _ in 0..TAKES_A_LINE {
+            if !self.take_one(alloc, disk, wire, now, course)? {
+                return Ok(());
+            }
+        }
+        Ok(())
+    }
+
+    // Takes packets, where the event of the line put one; a line that put none takes none.
+    fn take_behind<D: Disk, N: Wire>(
+        &mut self,
+        alloc: Global,
+        disk: &mut D,
+        wire: &mut N,
+        now: u64,
+        puts: bool,
+        course: &mut Course,
+    ) -> Result<(), ClusterError>
+        requires ready { IsReady D.Disk disk.old self.old }
+        requires takes { self.old.takes < 2 ^ 63 - TAKES_A_LINE }
+        ensures hands { OnOk result
+            (HandsOver D.Disk N.Wire course.old course.new
+            (moment self.old disk.old wire.old) (moment self.new disk.new wire.new)) }
+        ensures quiet { puts ≡ false → self.new.takes ≡ self.old.takes }
+        ensures drains { OnOk result (IsTrue puts → Drains N.Wire wire.old wire.new self.old.takes self.new.takes) }
         ensures sends { OnOk result (SendsSome N.Wire wire.old wire.new self.old.post self.new.post) }
         ensures ready { OnOk result (IsReady D.Disk disk.new self.new) }
         ensures end { IsEndOf D.Disk disk.old disk.new result }
@@ -335,15 +281,13 @@ impl Cluster {
         ensures waited { self.new.waited ≡ self.old.waited }
         ensures later { (D.faults disk.old ≤ D.faults disk.new) × (N.faults wire.old ≤ N.faults wire.new) }
     {
-        for _ in 0..TAKES_A_LINE {
-            if !self.take_one(alloc, disk, wire, now)? {
-                return Ok(());
-            }
+        if !puts {
+            return Ok(());
         }
-        Ok(())
+        self.take_all(alloc, disk, wire, now, course)
     }
 
-    // Sends a request, whose reply the line waits for.
+    // Sends a request.
     fn request<N: Wire>(
         &mut self,
         alloc: Global,
@@ -352,14 +296,14 @@ impl Cluster {
     ) -> Result<(), NoMemory>
         requires packets { ArePackets self.old.post }
         requires bounds { IsRequest request }
-        ensures sends { OnOk result (Sends N.Wire wire.old wire.new self.old.post self.new.post (asked_packet request ∷ [])) }
+        ensures sends { OnOk result
+            (Sends N.Wire wire.old wire.new self.old.post self.new.post (asked_packet request ∷ [])) }
         ensures packets { OnOk result (ArePackets self.new.post) }
         ensures handed { IsTrue N.tells → N.handed wire.new ≡ N.handed wire.old }
         ensures later { N.faults wire.old ≤ N.faults wire.new }
         ensures same { SendsOnly self.old self.new }
     {
         self.post.send(alloc, wire, Message::Ask(request), 0)?;
-        self.course = Course::awaiting(self.post.sent().len() as u64);
         Ok(())
     }
 
@@ -374,11 +318,15 @@ impl Cluster {
     ) -> Result<Begun, NoMemory>
         requires ready { IsReady D.Disk disk.now self.old }
         ensures acts { OnOk result ((now : ℕ) → Acts now (LineRange cell number) self.old self.new) }
+        ensures begun { IfOk result (λ begun. (now : ℕ) → Begins now (LineRange cell number) self.old begun) }
+        ensures puts { OnOk result
+            (PutsFor N.Wire (LineRange cell number) wire.old wire.new self.old.post self.new.post) }
         ensures ready { OnOk result (IsReady D.Disk disk.now self.new) }
         ensures agents { self.new.cells.items ≡ self.old.cells.items }
         ensures notes { OnOk result (NotesMore self.old self.new) }
         ensures handed { IsTrue N.tells → N.handed wire.new ≡ N.handed wire.old }
         ensures later { N.faults wire.old ≤ N.faults wire.new }
+        ensures waits { OnOk result (self.new.waited ≡ self.old.waited) }
         ensures same { IsSameBeside self.old self.new }
     {
         let cells = self.cells.as_slice();
@@ -390,7 +338,7 @@ impl Cluster {
         }
         let request = cells[place].ask_range(number);
         self.request(alloc, wire, request)?;
-        Ok(Begun::Range)
+        Ok(Begun::RangeAsked)
     }
 
     // A cell asks for the change that a line wants. Where it has drawn the last attempt of its epoch, nothing is asked.
@@ -406,11 +354,14 @@ impl Cluster {
         requires ready { IsReady D.Disk disk.now self.old }
         requires cell { cell_of_change line.now ≡ Some cell }
         ensures acts { OnOk result (Acts now line.now self.old self.new) }
+        ensures begun { IfOk result (Begins now line.now self.old) }
+        ensures puts { OnOk result (PutsFor N.Wire line.now wire.old wire.new self.old.post self.new.post) }
         ensures ready { OnOk result (IsReady D.Disk disk.now self.new) }
         ensures end { IfErr result (λ e. e ≡ ClusterError.Memory) }
         ensures notes { OnOk result (NotesMore self.old self.new) }
         ensures handed { IsTrue N.tells → N.handed wire.new ≡ N.handed wire.old }
         ensures later { N.faults wire.old ≤ N.faults wire.new }
+        ensures waits { OnOk result (self.new.waited ≡ self.old.waited) }
         ensures same { IsSameBeside self.old self.new }
     {
         let cells = self.cells.as_slice();
@@ -421,15 +372,15 @@ impl Cluster {
             return Ok(Begun::Told(Answer::Waiting { lease: None }));
         }
         let Some(change) = change_wanted(alloc, line, cells[place].store().tree())? else {
-            return Ok(Begun::Told(Answer::NoCell));
+            return Ok(Begun::Told(Answer::NoRule));
         };
         match self.cells[place].ask_change(alloc, change, now) {
             Ok(request) => {
-                let begun = begun_by(&request);
+                let begun = Begun::by(&request);
                 self.request(alloc, wire, request)?;
                 Ok(begun)
             }
-            Err(rule) => Ok(Begun::Told(refused(rule)?)),
+            Err(rule) => Ok(refused(rule)?),
         }
     }
 
@@ -444,10 +395,13 @@ impl Cluster {
     ) -> Result<Begun, NoMemory>
         requires ready { IsReady D.Disk disk.now self.old }
         ensures acts { OnOk result (Acts now (Reconcile cell) self.old self.new) }
+        ensures begun { IfOk result (Begins now (Reconcile cell) self.old) }
+        ensures puts { OnOk result (PutsFor N.Wire (Reconcile cell) wire.old wire.new self.old.post self.new.post) }
         ensures ready { OnOk result (IsReady D.Disk disk.now self.new) }
         ensures notes { OnOk result (NotesMore self.old self.new) }
         ensures handed { IsTrue N.tells → N.handed wire.new ≡ N.handed wire.old }
         ensures later { N.faults wire.old ≤ N.faults wire.new }
+        ensures waits { OnOk result (self.new.waited ≡ self.old.waited) }
         ensures same { IsSameBeside self.old self.new }
     {
         let Some(place) = place_of(self.cells.as_slice(), cell) else {
@@ -457,7 +411,6 @@ impl Cluster {
         let requests = agent.ask_reconcile(alloc)?;
         end_due(agent, &mut self.notes, now)?;
         self.post.send_requests(alloc, wire, requests.into_vec())?;
-        self.course = Course::awaiting(self.post.sent().len() as u64);
         Ok(Begun::Reconciles)
     }
 
@@ -470,6 +423,9 @@ impl Cluster {
     ) -> Result<Begun, NoMemory>
         requires packets { ArePackets self.old.post }
         ensures same { IsSameButWire self.old self.new }
+        ensures begun { IfOk result (λ begun. begun ≡ begun_on_wire (length (packets_of self.old.post)) line.now) }
+        ensures puts { OnOk result (PutsFor N.Wire line.now wire.old wire.new self.old.post self.new.post) }
+        ensures waits { OnOk result (self.new.waited ≡ waited_by line.now self.old.waited) }
         ensures handed { IsTrue N.tells → N.handed wire.new ≡ N.handed wire.old }
         ensures later { N.faults wire.old ≤ N.faults wire.new }
     {
@@ -496,17 +452,16 @@ impl Cluster {
     ) -> Result<Begun, NoMemory>
         requires packets { ArePackets self.old.post }
         ensures same { IsSameButWire self.old self.new }
+        ensures begun { IfOk result (λ begun. begun ≡ begun_repeat tag (length (packets_of self.old.post))) }
+        ensures puts { OnOk result (PutsFor N.Wire (Repeat tag) wire.old wire.new self.old.post self.new.post) }
+        ensures waits { self.new.waited ≡ self.old.waited }
         ensures handed { IsTrue N.tells → N.handed wire.new ≡ N.handed wire.old }
         ensures later { N.faults wire.old ≤ N.faults wire.new }
     {
-        if tag == 0 {
+        if !is_tag(tag, self.post.sent().len() as u64) {
             return Ok(Begun::Told(Answer::NoPacket));
         }
-        let place = tag - 1;
-        if place >= self.post.sent().len() as u64 {
-            return Ok(Begun::Told(Answer::NoPacket));
-        }
-        self.post.repeat(alloc, wire, place as usize)?;
+        self.post.repeat(alloc, wire, (tag - 1) as usize)?;
         Ok(Begun::Told(Answer::Repeated { tag }))
     }
 
@@ -521,11 +476,14 @@ impl Cluster {
     ) -> Result<Begun, ClusterError>
         requires ready { IsReady D.Disk disk.now self.old }
         ensures acts { OnOk result (Acts now line.now self.old self.new) }
+        ensures begun { IfOk result (Begins now line.now self.old) }
+        ensures puts { OnOk result (PutsFor N.Wire line.now wire.old wire.new self.old.post self.new.post) }
         ensures ready { OnOk result (IsReady D.Disk disk.now self.new) }
         ensures end { IfErr result (λ e. e ≡ ClusterError.Memory) }
         ensures notes { OnOk result (NotesMore self.old self.new) }
         ensures handed { IsTrue N.tells → N.handed wire.new ≡ N.handed wire.old }
         ensures later { N.faults wire.old ≤ N.faults wire.new }
+        ensures waits { OnOk result (self.new.waited ≡ waited_by line.now self.old.waited) }
         ensures same { IsSameBeside self.old self.new }
     {
         if let Some(cell) = cell_of_change(line) {
@@ -545,57 +503,6 @@ impl Cluster {
         ensures { result ≡ moment_of self.now now }
     {
         now.saturating_add(self.waited)
-    }
-
-    // How a change with this lease ended, by what was traced and noted behind these places.
-    fn answer_change(
-        &self,
-        alloc: Global,
-        lease: LeaseId,
-        steps: usize,
-        notes: usize,
-    ) -> Result<Answer, NoMemory> {
-        let waiting = Answer::Waiting { lease: Some(lease) };
-        match self.course.reply(&self.post) {
-            None => Ok(waiting),
-            Some(
-                Reply::Begun {
-                    result: BegunResult::Denied(denial),
-                    ..
-                },
-            ) => Ok(Answer::Denied {
-                lease,
-                denial: copy_of_denial(alloc, denial)?,
-            }),
-            Some(_) => {
-                if is_recorded(behind(self.trace.as_slice(), steps), lease) {
-                    return Ok(Answer::Accepted { lease });
-                }
-                match change_since(behind(self.notes.as_slice(), notes), lease) {
-                    Some((then, now)) => Ok(Answer::Changed { lease, then, now }),
-                    None => Ok(waiting),
-                }
-            }
-        }
-    }
-
-    // What a line comes to, by what its event came to and by what was taken since.
-    fn answer(
-        &self,
-        alloc: Global,
-        begun: Begun,
-        steps: usize,
-        notes: usize,
-    ) -> Result<Answer, NoMemory> {
-        match begun {
-            Begun::Told(answer) => Ok(answer),
-            Begun::Asked(lease) => self.answer_change(alloc, lease, steps, notes),
-            Begun::Range => Ok(answer_of_range(self.course.reply(&self.post))),
-            Begun::Reconciles => match self.course.reply(&self.post) {
-                Some(_) => Ok(Answer::Reconciled),
-                None => Ok(Answer::Waiting { lease: None }),
-            },
-        }
     }
 
     /// The transitions, in order.
@@ -642,6 +549,7 @@ impl Cluster {
         ensures ready { IfOk result (IsReady D.Disk disk.new) }
         ensures new { IfOk result IsNew }
         ensures end { IsOpenEnd D.Disk registry disk.old disk.new result }
+        ensures twice { IfErr result (FailsTwice D.Disk disk.old disk.new) }
         ensures later { D.faults disk.old ≤ D.faults disk.new }
     {
         let service = open_service(alloc, disk, &registry)?;
@@ -655,12 +563,12 @@ impl Cluster {
             notes: Vec::new(alloc),
             takes: 0,
             waited: 0,
-            course: Course::idle(),
         })
     }
 
-    /// Does a line of a script at this moment of the clock, in seconds: the line's own event first, and then it takes packets
-    /// and hands them over, until a take gives none or fails, or as many were taken as a line may take.
+    /// Does a line of a script at this moment of the clock, in seconds: the line's own event first, and then, where this put a
+    /// packet, it takes packets and hands them over, until a take gives none or fails, or as many were taken as a line may
+    /// take. The answer is the one that these events bring.
     ///
     /// Errors: [`ClusterError::DiskFailed`] where calls of the disk on this file failed; [`ClusterError::Memory`]. The cluster
     /// is not used again then; its trace and its notes stand.
@@ -675,10 +583,12 @@ impl Cluster {
         requires ready { IsReady D.Disk disk.old self.old }
         requires takes { self.old.takes < MOST_TAKES }
         requires built { IsBuilt line.now }
-        ensures follows { OnOk result
-            (Follows D.Disk N.Wire now line.now (moment self.old disk.old wire.old) (moment self.new disk.new wire.new)) }
+        ensures follows { IfOk result (λ answer. Follows D.Disk N.Wire now line.now answer
+            (moment self.old disk.old wire.old) (moment self.new disk.new wire.new)) }
+        ensures puts { OnOk result (PutsFor N.Wire line.now wire.old wire.new self.old.post self.new.post) }
         ensures ready { OnOk result (IsReady D.Disk disk.new self.new) }
         ensures registry { self.new.registry ≡ self.old.registry }
+        ensures waits { OnOk result (self.new.waited ≡ waited_by line.now self.old.waited) }
         ensures takes { OnOk result (self.new.takes ≤ self.old.takes + TAKES_A_LINE) }
         ensures grows { OnOk result (GoesOn self.old self.new) }
         ensures end { IsEndOf D.Disk disk.old disk.new result }
@@ -687,9 +597,14 @@ impl Cluster {
         let now = self.moment(now);
         let steps = self.trace.len();
         let notes = self.notes.len();
-        self.course = Course::idle();
         let begun = self.begin(alloc, disk, wire, line, now)?;
-        self.take_all(alloc, disk, wire, now)?;
-        Ok(self.answer(alloc, begun, steps, notes)?)
+        let mut course = begun.course(self.post.sent().len() as u64);
+        self.take_behind(alloc, disk, wire, now, begun.puts(), &mut course)?;
+        Ok(begun.answer(
+            alloc,
+            behind(self.trace.as_slice(), steps),
+            behind(self.notes.as_slice(), notes),
+            course.reply(&self.post),
+        )?)
     }
 }

@@ -1,77 +1,73 @@
 //! What a line of a script waits for.
-use crate::message::Message;
-use crate::post::{Post, Sent};
-use claim_types::Reply;
+ghost use Rattle.std.specs.Prelude.{◌≡◌, option_copied};
+ghost use Rattle.cells_world.specs.Course as spec;
+ghost use Rattle.cells_world.specs.Packets.{message_of};
+ghost use Rattle.cells_world.specs.Post.{packets_of};
 
-/// The request whose reply a line waits for, and that reply once it was taken.
+use crate::message::Message;
+use crate::post::Post;
+use claim_types::{LeasePage, Reply};
+
+/// Whether a line waits for a reply, and where that reply is once it was handed over.
 #[derive(Clone, Copy)]
-pub struct Course {
-    /// The tag of the request; 0 while the line waits for none.
-    awaits: u64,
-    /// The place of the reply.
-    taken: Option<usize>,
+pub enum Course {
+    /// It waits for none.
+    Idle,
+    /// It waits for the reply to the request with this tag.
+    Awaits { tag: u64 },
+    /// The reply was handed over: the packet in this place, from 0.
+    Replied { place: usize },
 }
 
-// The page that a packet carries, if it carries one: whether the list goes on behind it, and whether it lists any lease.
-fn page_of(sent: &Sent) -> Option<(bool, bool)> {
-    match sent.message() {
-        Message::Answer(Reply::Leases { page, .. }) => {
-            Some((page.more, !page.leases.as_slice().is_empty()))
-        }
-        _ => None,
+// The course where a page was handed over: behind one with more to come, the next page was asked for by the packet sent last.
+fn after_page(place: usize, page: &LeasePage, sent: u64) -> Course
+    ensures { result ≡ spec.after_page place page.now sent }
+{
+    if !page.more {
+        return Course::Replied { place };
+    }
+    if page.leases.as_slice().is_empty() {
+        return Course::Idle;
+    }
+    Course::Awaits { tag: sent }
+}
+
+// The course where a message was handed over that answers the request with this tag.
+fn after_message(tag: u64, place: usize, message: &Message, sent: u64) -> Course
+    ensures { result ≡ spec.after_message tag place (message_of message.now) sent }
+{
+    match message {
+        Message::Ask(_) => Course::Awaits { tag },
+        Message::Answer(Reply::Leases { page, .. }) => after_page(place, page, sent),
+        Message::Answer(_) => Course::Replied { place },
     }
 }
 
 impl Course {
-    /// Nothing is awaited.
-    pub fn idle() -> Self {
-        Course {
-            awaits: 0,
-            taken: None,
-        }
-    }
-
-    /// The reply to the packet with this tag is awaited.
-    pub fn awaiting(tag: u64) -> Self {
-        Course {
-            awaits: tag,
-            taken: None,
-        }
-    }
-
-    /// The course behind the hand-over of what was awaited: a page behind which the list goes on was followed by the request
-    /// for the next page, which was sent last and is awaited now.
-    pub fn followed(self, post: &Post) -> Self {
-        let Some(at) = self.taken else {
+    /// The course where the packet in this place was handed over, and this was sent by then.
+    pub fn after(self, post: &Post, place: usize) -> Course
+        ensures { result ≡ spec.after_hand (packets_of post.now) place self }
+    {
+        let Course::Awaits { tag } = self else {
             return self;
         };
         let sent = post.sent();
-        let Some(packet) = sent.get(at) else {
-            return self;
-        };
-        match page_of(packet) {
-            Some((true, true)) => Course::awaiting(sent.len() as u64),
-            Some((true, false)) => Course::idle(),
+        match sent.get(place) {
+            Some(packet) if packet.answers() == tag => {
+                after_message(tag, place, packet.message(), sent.len() as u64)
+            }
             _ => self,
         }
     }
 
-    /// The course where the packet in this place is taken: it is the reply, if it answers the awaited request.
-    pub fn after(self, post: &Post, at: usize) -> Self {
-        let course = self.followed(post);
-        match post.sent().get(at) {
-            Some(packet) if course.awaits != 0 && packet.answers() == course.awaits => Course {
-                awaits: 0,
-                taken: Some(at),
-            },
-            _ => course,
-        }
-    }
-
-    /// The reply that the line waited for, if it was taken.
-    pub fn reply<'a>(self, post: &'a Post) -> Option<&'a Reply> {
-        let at = self.followed(post).taken?;
-        match post.sent().get(at)?.message() {
+    /// The reply that was awaited, once it was handed over.
+    pub fn reply<'a>(self, post: &'a Post) -> Option<&'a Reply>
+        ensures { option_copied result ≡ spec.reply_of (packets_of post.now) self }
+    {
+        let Course::Replied { place } = self else {
+            return None;
+        };
+        match post.sent().get(place)?.message() {
             Message::Answer(reply) => Some(reply),
             Message::Ask(_) => None,
         }

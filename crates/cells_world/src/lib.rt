@@ -10,14 +10,18 @@
 //! for, with every node opened again (`opens`). [`Cluster::line`] does a line of a script: its own event, and then one
 //! hand-over for each packet that the wire gave, in order (`follows`); the files stood at each moment for a world that the
 //! first of these events lead to. A world in order stays in order by the law of `claim_laws`, so the trace is a run of legal
-//! steps. A packet that was not sent here, or whose leg or bytes are not those of its tag, is dropped.
+//! steps. A packet that was not sent here, or whose leg or bytes are not those of its tag, is dropped. The line's answer is the
+//! one that these events bring (`answer_of`), and what it put on the wire are the packets that it sent, but for those that were
+//! armed to be lost (`puts`). It takes packets where its event put one, until none is on its way or as many as a line may take.
 //!
-//! Which answer a line comes to is shown by tests, and by no clause yet; nor is it told what stays of a line that came to an end
-//! by a fault or for want of memory.
+//! That a line waits only where a packet was lost, a count rose or as many packets were taken as a line may take, no clause says
+//! in so many words; nor what stays of a line that came to an end by a fault or for want of memory.
 #![tactic(auto)]
 
+mod answer;
 mod cluster;
 mod course;
+mod examples;
 mod fault;
 mod hear;
 mod limits;
@@ -28,5 +32,11 @@ mod serve;
 mod wanted;
 
 pub use cluster::Cluster;
+pub use examples::{
+    a_change_comes_to_its_end, a_recorded_change_is_accepted, another_lease_is_no_answer,
+    at_0_nothing_is_lost, each_loss_counts_for_itself, pages_are_followed,
+    ranges_and_reconciliations_come_to_their_replies, tags_count_from_1, the_first_reply_counts,
+    the_second_put_is_lost,
+};
 pub use fault::{ClusterError, Damage};
 pub use limits::{MOST_TAKES, ROUTER, TAKES_A_LINE};

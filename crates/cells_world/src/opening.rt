@@ -1,5 +1,5 @@
 //! The files of an installation are opened.
-ghost use Rattle.std.specs.Prelude.{◌≡◌, ◌≤◌, ◌<◌, ℕ, IsTrue, IfOk, IfErr, OnOk, length};
+ghost use Rattle.std.specs.Prelude.{◌≡◌, ◌≢◌, ◌≤◌, ◌<◌, ℕ, false, IsTrue, IfOk, IfErr, OnOk, length};
 ghost use Rattle.std.specs.List.{Contains, slice_get};
 ghost use Rattle.claim_types.specs.Bounds.{IsCell};
 ghost use Rattle.claim_types.specs.declared.cell.Cell.{Cell as TheCell};
@@ -7,10 +7,12 @@ ghost use Rattle.claim_service.specs.Node.{service};
 ghost use Rattle.claim_service.specs.State.{kept};
 ghost use Rattle.claim_service.specs.declared.limits.TheConstants.{SERVICE_FILE};
 ghost use Rattle.claim_service.specs.declared.node.TopologyNode.{TopologyNode as TheNode};
+ghost use Rattle.claim_service.specs.declared.opening.ServiceOpenFault.TheVariants.{Failed as ServiceFailed};
 ghost use Rattle.cell_store.specs.Opening.{IsOpened};
+ghost use Rattle.cell_store.specs.declared.fault.CellOpenFault.TheVariants.{Failed as CellFailed};
 ghost use Rattle.disk_journal.specs.Entries.{Stands, TouchesOnly};
 ghost use Rattle.reconciler.specs.Agent.{IsReady as IsAgentReady};
-ghost use Rattle.cells_world.specs.Opening.{IsCellEnd, IsIdle, IsServiceEnd, IsStoreReady, StandsStill};
+ghost use Rattle.cells_world.specs.Opening.{FailsTwice, IsCellEnd, IsIdle, IsServiceEnd, IsStoreReady, StandsStill};
 ghost use Rattle.cells_world.specs.Opening.{AreApart, AreNew, AreOf, AreOpened, AreToEndFrom, IsOneEnd, StaysBeside};
 ghost use Rattle.cells_world.specs.Faults.{fault_of_service_open, fault_of_cell_open};
 ghost use Rattle.cells_world.specs.Serving.{IsServing};
@@ -69,6 +71,34 @@ fn fault_of_cell(file: u16, fault: CellOpenFault) -> ClusterError
     }
 }
 
+// Whether calls of the disk failed while the service's file was opened.
+fn service_failed(fault: &ServiceOpenFault) -> bool
+    ensures other { result ≡ false → fault.now ≢ ServiceFailed }
+    ensures failed { IsTrue result → fault.now ≡ ServiceFailed }
+{
+    match fault {
+        ServiceOpenFault::Failed => true,
+        ServiceOpenFault::NotAJournal { .. } => false,
+        ServiceOpenFault::BadEntry { .. } => false,
+        ServiceOpenFault::ConfigLacks { .. } => false,
+        ServiceOpenFault::Memory => false,
+    }
+}
+
+// Whether they failed while a cell's file was opened.
+fn cell_failed(fault: &CellOpenFault) -> bool
+    ensures other { result ≡ false → fault.now ≢ CellFailed }
+    ensures failed { IsTrue result → fault.now ≡ CellFailed }
+{
+    match fault {
+        CellOpenFault::Failed => true,
+        CellOpenFault::NotAJournal { .. } => false,
+        CellOpenFault::BadEntry { .. } => false,
+        CellOpenFault::EpochsSpent => false,
+        CellOpenFault::Memory => false,
+    }
+}
+
 /// Opens the service's file. Where that failed it is tried once more.
 pub fn open_service<D: Disk>(
     alloc: Global,
@@ -79,12 +109,15 @@ pub fn open_service<D: Disk>(
     ensures stands { IsTrue D.tells → StandsStill D.Disk disk.old disk.new →
         IfOk result (λ node. Stands service (D.seen disk.old) SERVICE_FILE (kept node.state)) }
     ensures end { IsServiceEnd D.Disk registry.now disk.old disk.new result }
+    ensures twice { IfErr result (FailsTwice D.Disk disk.old disk.new) }
     ensures others { TouchesOnly D.Disk SERVICE_FILE disk.old disk.new }
 {
-    match TopologyNode::open(alloc, disk, registry) {
+    let first = match TopologyNode::open(alloc, disk, registry) {
         Ok(node) => return Ok(node),
-        Err(ServiceOpenFault::Failed) => {}
-        Err(fault) => return Err(fault_of_service(fault)),
+        Err(fault) => fault,
+    };
+    if !service_failed(&first) {
+        return Err(fault_of_service(first));
     }
     match TopologyNode::open(alloc, disk, registry) {
         Ok(node) => Ok(node),
@@ -99,12 +132,15 @@ fn open_store<D: Disk>(alloc: Global, disk: &mut D, cell: u16) -> Result<CellSto
     ensures opened { IsTrue D.tells → StandsStill D.Disk disk.old disk.new →
         IfOk result (IsOpened cell (D.seen disk.old)) }
     ensures end { IsCellEnd D.Disk cell disk.old disk.new result }
+    ensures twice { IfErr result (FailsTwice D.Disk disk.old disk.new) }
     ensures others { TouchesOnly D.Disk cell disk.old disk.new }
 {
-    match CellStore::open(alloc, disk, cell) {
+    let first = match CellStore::open(alloc, disk, cell) {
         Ok(store) => return Ok(store),
-        Err(CellOpenFault::Failed) => {}
-        Err(fault) => return Err(fault_of_cell(cell, fault)),
+        Err(fault) => fault,
+    };
+    if !cell_failed(&first) {
+        return Err(fault_of_cell(cell, first));
     }
     match CellStore::open(alloc, disk, cell) {
         Ok(store) => Ok(store),
@@ -127,6 +163,7 @@ pub fn open_agent<D: Disk>(
     ensures opened { IsTrue D.tells → StandsStill D.Disk disk.old disk.new →
         IfOk result (λ a. IsOpened cell (D.seen disk.old) a.store) }
     ensures end { IsCellEnd D.Disk cell disk.old disk.new result }
+    ensures twice { IfErr result (FailsTwice D.Disk disk.old disk.new) }
     ensures others { TouchesOnly D.Disk cell disk.old disk.new }
 {
     let store = open_store(alloc, disk, cell)?;
@@ -148,6 +185,7 @@ pub fn open_agents<D: Disk>(
     ensures opened { IsTrue D.tells → StandsStill D.Disk disk.old disk.new →
         IfOk result (λ agents. AreOpened (D.seen disk.old) agents.items) }
     ensures end { IfErr result (IsOneEnd D.Disk cells.now disk.old disk.new) }
+    ensures twice { IfErr result (FailsTwice D.Disk disk.old disk.new) }
     ensures others { StaysBeside D.Disk cells.now disk.old disk.new }
     ensures later { D.faults disk.old ≤ D.faults disk.new }
 {

@@ -51,7 +51,8 @@ fn after_put(alloc: Global, armed: &[u64]) -> Result<Vec<u64>, NoMemory>
 
 // Puts a packet on a wire. A put that failed counts as sent.
 fn put_on<N: Wire>(alloc: Global, wire: &mut N, leg: Leg, bytes: &[u8]) -> Result<(), NoMemory>
-    ensures put { IfOk result (λ _. IsTrue N.tells → N.sent wire.new ≡ N.sent wire.old ++ record { leg = leg; bytes = bytes.now } ∷ []) }
+    ensures put { OnOk result (IsTrue N.tells →
+        N.sent wire.new ≡ N.sent wire.old ++ record { leg = leg; bytes = bytes.now } ∷ []) }
     ensures handed { IsTrue N.tells → N.handed wire.new ≡ N.handed wire.old }
     ensures later { N.faults wire.old ≤ N.faults wire.new }
 {
@@ -158,7 +159,8 @@ impl Post {
         leg: Leg,
         bytes: &[u8],
     ) -> Result<(), NoMemory>
-        ensures put { OnOk result (Puts N.Wire wire.old wire.new self.old (record { leg = leg; bytes = bytes.now } ∷ [])) }
+        ensures put { OnOk result
+            (Puts N.Wire wire.old wire.new self.old (record { leg = leg; bytes = bytes.now } ∷ [])) }
         ensures handed { IsTrue N.tells → N.handed wire.new ≡ N.handed wire.old }
         ensures armed { OnOk result (self.new.armed.items ≡ after_put self.old.armed.items) }
         ensures sent { self.new.sent ≡ self.old.sent }

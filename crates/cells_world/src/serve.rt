@@ -14,8 +14,8 @@ ghost use Rattle.cells_world.specs.declared.fault.ClusterError.TheVariants.{Disk
 use crate::fault::{ClusterError, Damage};
 use cell_registry::Registry;
 use cells_base::{Copied, NoMemory};
-use claim_service::{NodeError, SERVICE_FILE, TopologyNode};
-use claim_types::{BegunResult, Question, Range, RangedResult, Reply, Request, Step};
+use claim_service::{NodeError, SERVICE_FILE, TopologyNode, copy_of_question};
+use claim_types::{BegunResult, Range, RangedResult, Reply, Request, Step};
 use disk_journal::Disk;
 use reconciler::copy_of_denial;
 use std::alloc::Global;
@@ -38,24 +38,6 @@ impl From<NodeError> for ClusterError {
             NodeError::Memory => ClusterError::Memory,
         }
     }
-}
-
-fn copy_of_question(alloc: Global, question: &Question) -> Result<Question, NoMemory>
-    ensures { IfOk result (λ copied. copied ≡ question.now) }
-{
-    Ok(match question {
-        Question::First => Question::First,
-        Question::Cell { id } => Question::Cell { id: *id },
-        Question::Session { text } => Question::Session {
-            text: text.copy(alloc)?,
-        },
-        Question::Claim { key } => Question::Claim {
-            key: key.copy(alloc)?,
-        },
-        Question::Path { text } => Question::Path {
-            text: text.copy(alloc)?,
-        },
-    })
 }
 
 // The step that a request asks for.
@@ -151,14 +133,19 @@ pub fn serve<D: Disk>(
     requires cells { AreCells registry.now }
     requires serving { IsServing D.Disk disk.old service.old }
     requires bounds { IsRequest request.now }
-    ensures reply { IfOk result (λ served. served.reply ≡ (owed registry.now (kept service.old.state) request.now).reply) }
+    ensures reply { IfOk result (λ served. served.reply
+        ≡ (owed registry.now (kept service.old.state) request.now).reply) }
     ensures step { IfOk result (λ served. served.step ≡ (owed registry.now (kept service.old.state) request.now).step) }
-    ensures keeps { OnOk result (kept service.new.state ≡ kept_after (kept service.old.state) (owed registry.now (kept service.old.state) request.now)) }
+    ensures keeps { OnOk result (kept service.new.state
+        ≡ kept_after (kept service.old.state) (owed registry.now (kept service.old.state) request.now)) }
     ensures serving { OnOk result (IsServing D.Disk disk.new service.new) }
-    ensures written { OnOk result (Writes D.Disk disk.old disk.new service.old service.new (owed registry.now (kept service.old.state) request.now)) }
-    ensures any_moment { WritesAtMost D.Disk disk.old disk.new service.old (owed registry.now (kept service.old.state) request.now) }
+    ensures written { OnOk result (Writes D.Disk disk.old disk.new service.old service.new
+        (owed registry.now (kept service.old.state) request.now)) }
+    ensures any_moment { WritesAtMost D.Disk disk.old disk.new service.old
+        (owed registry.now (kept service.old.state) request.now) }
     ensures others { TouchesOnly D.Disk SERVICE_FILE disk.old disk.new }
-    ensures failed { (file : ℕ) → IsErrOf result (ClusterError.DiskFailed file) → (file ≡ SERVICE_FILE) × FailedAt D.Disk SERVICE_FILE disk.old disk.new }
+    ensures failed { (file : ℕ) → IsErrOf result (ClusterError.DiskFailed file) →
+        (file ≡ SERVICE_FILE) × FailedAt D.Disk SERVICE_FILE disk.old disk.new }
     ensures whole { (file : ℕ) (fault : Damage) → IsErrOf result (ClusterError.Damaged file fault) → ⊥ }
 {
     let asked = step_asked(alloc, request)?;

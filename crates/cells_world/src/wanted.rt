@@ -65,7 +65,8 @@ fn created_below(
     bucket: Bucket,
     above: &Text,
 ) -> Result<Change, NoMemory>
-    ensures { IfOk result (λ change. change ≡ Create kind (spec.record_named tree.now bucket above.now) (spec.name_of name.now)) }
+    ensures { IfOk result (λ change. change
+        ≡ Create kind (spec.record_named tree.now bucket above.now) (spec.name_of name.now)) }
 {
     Ok(Change::Create {
         kind,

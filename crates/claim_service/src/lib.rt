@@ -37,7 +37,7 @@ mod state;
 pub use limits::SERVICE_FILE;
 pub use node::{Handled, NodeError, TopologyNode};
 pub use opening::ServiceOpenFault;
-pub use state::{Answered, ServiceState};
+pub use state::{Answered, ServiceState, copy_of_question};
 
 #[cfg(test)]
 mod tests;

@@ -102,7 +102,8 @@ fn denial(alloc: Global, ops: &Operations, refusal: Refusal) -> Result<Denial, N
     })
 }
 
-fn copy_of(alloc: Global, question: &Question) -> Result<Question, NoMemory>
+/// The same question again.
+pub fn copy_of_question(alloc: Global, question: &Question) -> Result<Question, NoMemory>
     ensures { IfOk result (λ copied. copied ≡ question.now) }
 {
     Ok(match question {
@@ -334,7 +335,7 @@ impl ServiceState {
             (class_of registry.now self.now.leases.holder question.now)) (kept self.now) result (kept self.now) }
     {
         let class = classify(&self.leases, registry, question);
-        let question = copy_of(alloc, question)?;
+        let question = copy_of_question(alloc, question)?;
         Ok(unwritten(Reply::Classified { question, class }))
     }
 

@@ -5,6 +5,7 @@ use Rattle.cells_base.proofs.Members.{nowhere}
 use Rattle.reconciler.specs.declared.agent.CellAgent.{CellAgent}
 use Rattle.std.proofs.lemmas.Result.{err_from_is_err_and}
 use Rattle.cells_world.proofs.Agents.{AreSoFar, none_so_far, beside_so_far, beside_then, ends_then, one_more}
+use Rattle.cells_world.proofs.Openings.{twice_earlier}
 use Rattle.cells_world.proofs.opening.open_agents.Goals as goal
 
 pub loop-cell-init : goal.loop-cell-init
@@ -54,3 +55,9 @@ returns-in_err-agent-clause-others g c =
 
 pub returns-clause-others : goal.returns-clause-others
 returns-clause-others g c = beside_so_far g.D.Disk c.args.cells.now c.args.disk.now c.loop-cell.disk c.loop-cell.cell-index c.loop-cell.agents.items c.loop-cell.invariant.so_far
+
+pub returns-in_err-agent-clause-twice : goal.returns-in_err-agent-clause-twice
+returns-in_err-agent-clause-twice g c =
+    let p = err_from_is_err_and c.from_residual-in_err-agent.result c.from_residual-in_err-agent.ensures.1 in
+    rw (p.1, p.2)
+    (twice_earlier g.D.Disk c.args.disk.now c.loop-cell.disk c.open_agent.new.disk c.in_err-agent.field-0.0 c.loop-cell.invariant.so_far.later c.in_err-agent.ensures.twice)

@@ -18,6 +18,8 @@ use Rattle.cells_world.proofs.Acting.{unknown}
 use Rattle.cells_world.proofs.Places.{puts_set, agents_set, same_some}
 use Rattle.cells_world.proofs.Reconcile.{ready_acted}
 use Rattle.cells_world.proofs.Wanting.{asked_in, refused_in, asked_ok, asked_err, begun, asks_nobody, change_in, answers_rule, spent_in}
+use Rattle.cells_world.proofs.Begun.{asked_begun, nobody_begun, request_begun, rule_begun, spent_begun}
+use Rattle.cells_world.proofs.Putting.{change_plain, puts_none, puts_sent}
 use Rattle.cells_world.proofs.cluster.Cluster.begin_change.Goals as goal
 
 -- the agent that is asked is the one that was read, with an attempt left
@@ -130,13 +132,12 @@ returns-in_ok-refused-in-Err-clause-acts g c = λ start w order is_in. (
       notes = c.args.self.now.notes;
       takes = c.args.self.now.takes;
       waited = c.args.self.now.waited;
-      course = c.args.self.now.course;
     } in
     let there = at_k c.as_slice-cells.result.now c.args.self.now.cells.items c.as_slice-cells.ensures.value c.in-Some.place c.index-cells-place-2.result c.index_mut.result.now c.in-Some.ensures.within c.index-cells-place-2.is c.index_mut.ensures.value in
     let inside = at_place old.cells.items place k there in
     let one_agent = one c.as_slice-cells.result.now c.args.self.now.cells.items c.as_slice-cells.ensures.value c.in-Some.place c.index-cells-place-2.result c.index_mut.result.now c.in-Some.ensures.within c.index-cells-place-2.is c.index_mut.ensures.value in
     let of_cell : k.store.cell ≡ c.args.cell = ap (λ (x : CellAgent). x.store.cell) (sym one_agent ∙ same_some c.index-cells-place-2.result found.0 (sym (at_i c.as_slice-cells.result.now c.args.self.now.cells.items c.as_slice-cells.ensures.value c.in-Some.place c.index-cells-place-2.result c.index_mut.result.now c.in-Some.ensures.within c.index-cells-place-2.is c.index_mut.ensures.value) ∙ found.1)) ∙ found.2 in
-    let answer = answers_rule _ (kept_by k) c.in-Err.rule (kept_by after) c.in-Err.ensures.asked c.in_ok-refused-in-Err.ensures in
+    let answer = answers_rule _ (kept_by k) c.in-Err.rule (kept_by after) c.in-Err.ensures.asked c.in_ok-refused-in-Err.ensures.rule in
     let asked = asked_err _ c.in-Err.rule answer.0 in
     let kept = answer.1 ∙ ap (λ r. agent_after r (kept_by k)) asked.1 in
     let wanted : change_wanted c.args.line.now (tree_of w.claims k.store.cell) ≡ Some c.in-Some-2.change =
@@ -162,7 +163,6 @@ returns-in_ok-refused-in-Err-clause-ready g c =
       notes = c.args.self.now.notes;
       takes = c.args.self.now.takes;
       waited = c.args.self.now.waited;
-      course = c.args.self.now.course;
     } in
     let there = at_k c.as_slice-cells.result.now c.args.self.now.cells.items c.as_slice-cells.ensures.value c.in-Some.place c.index-cells-place-2.result c.index_mut.result.now c.in-Some.ensures.within c.index-cells-place-2.is c.index_mut.ensures.value in
     let same = c.ask_change.ensures.same.store.cell in
@@ -170,3 +170,70 @@ returns-in_ok-refused-in-Err-clause-ready g c =
     k after (at_place old.cells.items place k there) c.ask_change.ensures.store c.ask_change.ensures.same.threshold c.ask_change.ensures.agent refl
     (puts_set old.registry old.cells.items place k after c.requires.ready.agents there same)
     (agents_set old.registry old.cells.items place k after c.requires.ready.agents there same)
+
+-- what was begun: nothing of an unknown cell, or where the last attempt was drawn
+pub returns-in_default-clause-begun : goal.returns-in_default-clause-begun
+returns-in_default-clause-begun g c = λ start w order is_in.
+    nobody_begun w c.args.now c.args.line.now c.args.cell c.requires.cell
+    (unknown c.args.self.now w c.args.cell is_in (λ a there. c.in_default.ensures.missing a (subst (λ xs. Contains xs a) (sym c.as_slice-cells.ensures.value) there)))
+
+pub returns-then-drawn-ge-GREATEST_ATTEMPT-clause-begun : goal.returns-then-drawn-ge-GREATEST_ATTEMPT-clause-begun
+returns-then-drawn-ge-GREATEST_ATTEMPT-clause-begun g c = λ start w order is_in. (
+    let i : CellAgent = c.index-cells-place.result in
+    let found = c.in-Some.ensures.found in
+    let read = slice_get_read c.as_slice-cells.result.now (length c.as_slice-cells.result.now) c.in-Some.place i refl c.in-Some.ensures.within c.index-cells-place.is in
+    let there : slice_get c.args.self.now.cells.items c.in-Some.place ≡ Some i = ap (λ xs. slice_get xs c.in-Some.place) (sym c.as_slice-cells.ensures.value) ∙ read in
+    let of_cell : i.store.cell ≡ c.args.cell = ap (λ (x : CellAgent). x.store.cell) (same_some i found.0 (sym read ∙ found.1)) ∙ found.2 in
+    let spent = c.if-drawn-ge-GREATEST_ATTEMPT.true in
+    let is = c.drawn.ensures in
+    spent_begun w c.args.now c.args.line.now c.args.cell c.requires.cell c.args.self.now i is_in (at_place c.args.self.now.cells.items c.in-Some.place i there) of_cell (omega (arith, spent, is)))
+
+pub returns-in_ok-request-in-Ok-clause-begun : goal.returns-in_ok-request-in-Ok-clause-begun
+returns-in_ok-request-in-Ok-clause-begun g c = λ start w order is_in. (
+    let old : Cluster = c.args.self.now in
+    let k : CellAgent = c.index_mut.result.now in
+    let place = c.in-Some.place in
+    let found = c.in-Some.ensures.found in
+    let there = at_k c.as_slice-cells.result.now c.args.self.now.cells.items c.as_slice-cells.ensures.value c.in-Some.place c.index-cells-place-2.result c.index_mut.result.now c.in-Some.ensures.within c.index-cells-place-2.is c.index_mut.ensures.value in
+    let inside = at_place old.cells.items place k there in
+    let one_agent = one c.as_slice-cells.result.now c.args.self.now.cells.items c.as_slice-cells.ensures.value c.in-Some.place c.index-cells-place-2.result c.index_mut.result.now c.in-Some.ensures.within c.index-cells-place-2.is c.index_mut.ensures.value in
+    let of_cell : k.store.cell ≡ c.args.cell = ap (λ (x : CellAgent). x.store.cell) (sym one_agent ∙ same_some c.index-cells-place-2.result found.0 (sym (at_i c.as_slice-cells.result.now c.args.self.now.cells.items c.as_slice-cells.ensures.value c.in-Some.place c.index-cells-place-2.result c.index_mut.result.now c.in-Some.ensures.within c.index-cells-place-2.is c.index_mut.ensures.value) ∙ found.1)) ∙ found.2 in
+    let wanted : change_wanted c.args.line.now (stored k.store).tree ≡ Some c.in-Some-2.change =
+    ap (change_wanted c.args.line.now) (ap (λ (x : CellAgent). (stored x.store).tree) (sym one_agent) ∙ sym (c.tree.ensures ∙ ap (λ s. (stored s).tree) c.store.ensures))
+    ∙ sym c.in_ok-change.ensures ∙ c.in-Some-2.is in
+    let few = left c.as_slice-cells.result.now c.args.self.now.cells.items c.as_slice-cells.ensures.value c.in-Some.place c.index-cells-place.result c.index_mut.result.now c.in-Some.ensures.within c.index-cells-place.is c.index_mut.ensures.value c.drawn.result c.drawn.ensures (let small = c.if-drawn-ge-GREATEST_ATTEMPT.false in omega (arith, small)) in
+    c.by-begun.ensures ∙ request_begun _ c.in-Ok.request c.in-Ok.ensures.asked.0
+    ∙ sym (asked_begun w c.args.now c.args.line.now c.args.cell c.requires.cell old k is_in inside of_cell few (Some c.in-Some-2.change) wanted))
+
+pub returns-in_ok-refused-in-Err-clause-begun : goal.returns-in_ok-refused-in-Err-clause-begun
+returns-in_ok-refused-in-Err-clause-begun g c = λ start w order is_in. (
+    let old : Cluster = c.args.self.now in
+    let k : CellAgent = c.index_mut.result.now in
+    let after : CellAgent = c.ask_change.new.self in
+    let place = c.in-Some.place in
+    let found = c.in-Some.ensures.found in
+    let there = at_k c.as_slice-cells.result.now c.args.self.now.cells.items c.as_slice-cells.ensures.value c.in-Some.place c.index-cells-place-2.result c.index_mut.result.now c.in-Some.ensures.within c.index-cells-place-2.is c.index_mut.ensures.value in
+    let inside = at_place old.cells.items place k there in
+    let one_agent = one c.as_slice-cells.result.now c.args.self.now.cells.items c.as_slice-cells.ensures.value c.in-Some.place c.index-cells-place-2.result c.index_mut.result.now c.in-Some.ensures.within c.index-cells-place-2.is c.index_mut.ensures.value in
+    let of_cell : k.store.cell ≡ c.args.cell = ap (λ (x : CellAgent). x.store.cell) (sym one_agent ∙ same_some c.index-cells-place-2.result found.0 (sym (at_i c.as_slice-cells.result.now c.args.self.now.cells.items c.as_slice-cells.ensures.value c.in-Some.place c.index-cells-place-2.result c.index_mut.result.now c.in-Some.ensures.within c.index-cells-place-2.is c.index_mut.ensures.value) ∙ found.1)) ∙ found.2 in
+    let wanted : change_wanted c.args.line.now (stored k.store).tree ≡ Some c.in-Some-2.change =
+    ap (change_wanted c.args.line.now) (ap (λ (x : CellAgent). (stored x.store).tree) (sym one_agent) ∙ sym (c.tree.ensures ∙ ap (λ s. (stored s).tree) c.store.ensures))
+    ∙ sym c.in_ok-change.ensures ∙ c.in-Some-2.is in
+    let few = left c.as_slice-cells.result.now c.args.self.now.cells.items c.as_slice-cells.ensures.value c.in-Some.place c.index-cells-place.result c.index_mut.result.now c.in-Some.ensures.within c.index-cells-place.is c.index_mut.ensures.value c.drawn.result c.drawn.ensures (let small = c.if-drawn-ge-GREATEST_ATTEMPT.false in omega (arith, small)) in
+    let answer = answers_rule _ (kept_by k) c.in-Err.rule (kept_by after) c.in-Err.ensures.asked c.in_ok-refused-in-Err.ensures.rule in
+    c.in_ok-refused-in-Err.ensures.told ∙ rule_begun _ c.in-Err.rule answer.0
+    ∙ sym (asked_begun w c.args.now c.args.line.now c.args.cell c.requires.cell old k is_in inside of_cell few (Some c.in-Some-2.change) wanted))
+
+-- what was put: the begin, if it was sent
+pub returns-in_default-clause-puts : goal.returns-in_default-clause-puts
+returns-in_default-clause-puts g c = puts_none g.N.Wire c.args.line.now c.args.wire.now c.args.self.now.post (change_plain c.args.line.now c.args.cell c.requires.cell)
+
+pub returns-then-drawn-ge-GREATEST_ATTEMPT-clause-puts : goal.returns-then-drawn-ge-GREATEST_ATTEMPT-clause-puts
+returns-then-drawn-ge-GREATEST_ATTEMPT-clause-puts g c = puts_none g.N.Wire c.args.line.now c.args.wire.now c.args.self.now.post (change_plain c.args.line.now c.args.cell c.requires.cell)
+
+pub returns-in_ok-request-in-Ok-clause-puts : goal.returns-in_ok-request-in-Ok-clause-puts
+returns-in_ok-request-in-Ok-clause-puts g c = puts_sent g.N.Wire c.args.line.now c.args.wire.now c.request.new.wire c.args.self.now.post c.request.new.self.post (change_plain c.args.line.now c.args.cell c.requires.cell)
+    (packet_of c.in-Ok.request ∷ []) c.in_ok-request-in-Ok.ensures.sends
+
+pub returns-in_ok-refused-in-Err-clause-puts : goal.returns-in_ok-refused-in-Err-clause-puts
+returns-in_ok-refused-in-Err-clause-puts g c = puts_none g.N.Wire c.args.line.now c.args.wire.now c.args.self.now.post (change_plain c.args.line.now c.args.cell c.requires.cell)

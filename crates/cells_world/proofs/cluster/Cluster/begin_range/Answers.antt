@@ -1,4 +1,4 @@
-use Rattle.std.proofs.Common.{◌≡◌, ◌++◌, ◌∷◌, [], refl, sym, ◌∙◌, ap, subst, Some, length}
+use Rattle.std.proofs.Common.{◌≡◌, ◌++◌, ◌∷◌, [], ℕ, true, false, refl, sym, ◌∙◌, ap, subst, Option, Some, None, length}
 use Rattle.std.specs.List.{Contains, slice_get}
 use Rattle.std.specs.FinMap as map
 use Rattle.std.proofs.lemmas.Option.{slice_get_read}
@@ -6,15 +6,24 @@ use Rattle.cells_base.proofs.Members.{at_place}
 use Rattle.claim_types.specs.MessageBounds.{IsRequest}
 use Rattle.claim_laws.specs.Acts.{packet_of}
 use Rattle.claim_laws.specs.Events.{run}
+use Rattle.reconciler.specs.Agent.{kept_by}
 use Rattle.reconciler.specs.declared.agent.CellAgent.{CellAgent}
+use Rattle.cells_script.specs.declared.line.Line.TheVariants.{Range as RangeLine}
+use Rattle.cells_world.specs.Answers.{is_zero}
 use Rattle.cells_world.specs.Lines.{asks_range}
 use Rattle.cells_world.specs.Post.{packets_of}
 use Rattle.cells_world.specs.World.{IsIn}
 use Rattle.cells_world.proofs.Acting.{unknown}
-use Rattle.cells_world.proofs.Places.{same_some}
+use Rattle.cells_world.proofs.Places.{found_agent, same_some}
 use Rattle.cells_world.proofs.Ready.{ready_sent}
 use Rattle.cells_world.proofs.Wanting.{range_bounds, range_in, range_zero}
+use Rattle.cells_world.proofs.Begun.{agent_at, range_begun}
+use Rattle.cells_world.proofs.Putting.{IsPlain, puts_none, puts_sent}
 use Rattle.cells_world.proofs.cluster.Cluster.begin_range.Goals as goal
+
+-- a line that asks for a range is plain
+plain : (cell : ℕ) (number : Option ℕ) → IsPlain (RangeLine cell number)
+plain cell number = record { again = λ sent. refl; armed = λ armed. refl }
 
 pub returns-in_default-clause-acts : goal.returns-in_default-clause-acts
 returns-in_default-clause-acts g c = λ now start w order is_in.
@@ -49,3 +58,30 @@ returns-clause-acts g c = λ now start w order is_in. (
 
 pub returns-clause-ready : goal.returns-clause-ready
 returns-clause-ready g c = ready_sent g.D.Disk c.args.disk.now c.args.self.now c.request.new.self c.requires.ready c.request.ensures.same.registry c.in_ok-request.ensures.packets c.request.ensures.same.service c.request.ensures.same.cells
+
+-- what was begun: nothing of an unknown cell, or at number 0
+pub returns-in_default-clause-begun : goal.returns-in_default-clause-begun
+returns-in_default-clause-begun g c = λ now start w order is_in.
+    sym (range_begun w now c.args.cell c.args.number None (is_zero c.args.number)
+    (unknown c.args.self.now w c.args.cell is_in (λ a there. c.in_default.ensures.missing a (subst (λ xs. Contains xs a) (sym c.as_slice-cells.ensures.value) there))) refl)
+
+pub returns-then-is_zero-clause-begun : goal.returns-then-is_zero-clause-begun
+returns-then-is_zero-clause-begun g c = λ now start w order is_in. (
+    let k = found_agent c.args.self.now.cells.items c.as_slice-cells.result.now c.as_slice-cells.ensures.value c.args.cell c.in-Some.place c.in-Some.ensures.found in
+    sym (range_begun w now c.args.cell c.args.number (Some (kept_by k.0)) true (agent_at c.args.self.now w k.0 c.args.cell is_in k.1 k.2) (sym c.is_zero.ensures.test ∙ c.if-is_zero.true)))
+
+pub returns-clause-begun : goal.returns-clause-begun
+returns-clause-begun g c = λ now start w order is_in. (
+    let k = found_agent c.args.self.now.cells.items c.as_slice-cells.result.now c.as_slice-cells.ensures.value c.args.cell c.in-Some.place c.in-Some.ensures.found in
+    sym (range_begun w now c.args.cell c.args.number (Some (kept_by k.0)) false (agent_at c.args.self.now w k.0 c.args.cell is_in k.1 k.2) (sym c.is_zero.ensures.test ∙ c.if-is_zero.false)))
+
+-- what was put: the request, if it was sent
+pub returns-in_default-clause-puts : goal.returns-in_default-clause-puts
+returns-in_default-clause-puts g c = puts_none g.N.Wire (RangeLine c.args.cell c.args.number) c.args.wire.now c.args.self.now.post (plain c.args.cell c.args.number)
+
+pub returns-then-is_zero-clause-puts : goal.returns-then-is_zero-clause-puts
+returns-then-is_zero-clause-puts g c = puts_none g.N.Wire (RangeLine c.args.cell c.args.number) c.args.wire.now c.args.self.now.post (plain c.args.cell c.args.number)
+
+pub returns-clause-puts : goal.returns-clause-puts
+returns-clause-puts g c = puts_sent g.N.Wire (RangeLine c.args.cell c.args.number) c.args.wire.now c.request.new.wire c.args.self.now.post c.request.new.self.post (plain c.args.cell c.args.number)
+    (packet_of c.ask_range-request.result ∷ []) c.in_ok-request.ensures.sends

@@ -1,4 +1,4 @@
-use Rattle.std.proofs.Common.{◌≡◌, ℕ, List, refl, sym, ◌∙◌, ap, subst, Some, length, get_or, ◌++◌, arith}
+use Rattle.std.proofs.Common.{◌≡◌, ℕ, List, refl, sym, ◌∙◌, ap, subst, Some, None, length, get_or, ◌++◌, arith}
 use Rattle.std.specs.Prelude.{map as list_map}
 use Rattle.std.specs.List.{Contains, slice_get}
 use Rattle.std.specs.Vec.{with_item}
@@ -8,12 +8,20 @@ use Rattle.claim_laws.specs.Acts.{packet_of}
 use Rattle.cell_store.specs.declared.store.CellStore.{CellStore}
 use Rattle.reconciler.specs.Agent.{kept_by}
 use Rattle.reconciler.specs.declared.agent.CellAgent.{CellAgent}
+use Rattle.cells_script.specs.declared.line.Line.TheVariants.{Reconcile as ReconcileLine}
 use Rattle.cells_world.specs.Cluster.{IsPlaceOf, Lacks}
 use Rattle.cells_world.specs.Post.{packets_of, AreRequests}
 use Rattle.cells_world.specs.declared.cluster.Cluster.{Cluster}
-use Rattle.cells_world.proofs.Places.{puts_set, agents_set, same_some}
+use Rattle.cells_world.proofs.Places.{found_agent, puts_set, agents_set, same_some}
 use Rattle.cells_world.proofs.Reconcile.{ready_acted, asks_bounds, reconciles_nothing, reconciles_in}
+use Rattle.cells_world.proofs.Acting.{unknown}
+use Rattle.cells_world.proofs.Begun.{agent_at, reconcile_begun}
+use Rattle.cells_world.proofs.Putting.{IsPlain, puts_none, puts_sent}
 use Rattle.cells_world.proofs.cluster.Cluster.begin_reconcile.Goals as goal
+
+-- a line that reconciles is plain
+plain : (cell : ℕ) → IsPlain (ReconcileLine cell)
+plain cell = record { again = λ sent. refl; armed = λ armed. refl }
 
 -- the agent of the place
 module _ (cells : List CellAgent) (cell place : ℕ) (k : CellAgent) (found : IsPlaceOf cells cell place) (is : k ≡ get_or cells place k) where
@@ -64,7 +72,6 @@ returns-clause-acts g c = λ start w order is_in. (
       notes = c.end_due.new.notes;
       takes = c.args.self.now.takes;
       waited = c.args.self.now.waited;
-      course = c.awaiting-self.result;
     } in
     let k : CellAgent = c.index_mut-agent.result.now in
     let found = subst (λ xs. IsPlaceOf xs c.args.cell c.in-Some.place) c.as_slice.ensures.value c.in-Some.ensures.found in
@@ -89,7 +96,6 @@ returns-clause-ready g c =
       notes = c.end_due.new.notes;
       takes = c.args.self.now.takes;
       waited = c.args.self.now.waited;
-      course = c.awaiting-self.result;
     } in
     let k : CellAgent = c.index_mut-agent.result.now in
     let found = subst (λ xs. IsPlaceOf xs c.args.cell c.in-Some.place) c.as_slice.ensures.value c.in-Some.ensures.found in
@@ -100,3 +106,20 @@ returns-clause-ready g c =
     ready_acted g.D.Disk c.args.disk.now old new c.requires.ready refl c.in_ok-send_requests.ensures.packets k c.end_due.new.agent member due.store due.same.threshold due.agent refl
     (puts_set old.registry old.cells.items c.in-Some.place k c.end_due.new.agent c.requires.ready.agents stands same)
     (agents_set old.registry old.cells.items c.in-Some.place k c.end_due.new.agent c.requires.ready.agents stands same)
+
+-- what was begun, and what was put
+pub returns-in_default-clause-begun : goal.returns-in_default-clause-begun
+returns-in_default-clause-begun g c = λ start w order is_in.
+    sym (reconcile_begun w c.args.now c.args.cell None (unknown c.args.self.now w c.args.cell is_in (subst (λ xs. Lacks xs c.args.cell) c.as_slice.ensures.value c.in_default.ensures.missing)))
+
+pub returns-clause-begun : goal.returns-clause-begun
+returns-clause-begun g c = λ start w order is_in. (
+    let k = found_agent c.args.self.now.cells.items c.as_slice.result.now c.as_slice.ensures.value c.args.cell c.in-Some.place c.in-Some.ensures.found in
+    sym (reconcile_begun w c.args.now c.args.cell (Some (kept_by k.0)) (agent_at c.args.self.now w k.0 c.args.cell is_in k.1 k.2)))
+
+pub returns-in_default-clause-puts : goal.returns-in_default-clause-puts
+returns-in_default-clause-puts g c = puts_none g.N.Wire (ReconcileLine c.args.cell) c.args.wire.now c.args.self.now.post (plain c.args.cell)
+
+pub returns-clause-puts : goal.returns-clause-puts
+returns-clause-puts g c = puts_sent g.N.Wire (ReconcileLine c.args.cell) c.args.wire.now c.send_requests.new.wire c.args.self.now.post c.send_requests.new.self (plain c.args.cell)
+    (list_map packet_of c.into_vec.result.items) c.in_ok-send_requests.ensures.sends

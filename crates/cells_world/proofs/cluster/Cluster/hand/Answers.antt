@@ -75,7 +75,6 @@ returns-in_default-clause-hands g c = λ p at_p start w order is_in. (
       notes = c.reserve-2.new.self;
       takes = c.args.self.now.takes;
       waited = c.args.self.now.waited;
-      course = c.args.self.now.course;
     } in
     let message_is : p.message ≡ answer c.in-Answer.reply = carries old.post c.args.at c.index-sent-at.result c.requires.place (c.index-sent-at.is ∙ ap (λ xs. get_or xs c.args.at c.index-sent-at.result) c.sent.ensures) p at_p (AsAnswer c.in-Answer.reply) (sym c.message.ensures ∙ c.in-Answer.is) in
     subst (λ m. Leads g.D.Disk w (after_message old.registry (c.args.at + 1) m w) (moment old c.args.disk.now c.args.wire.now) (moment new c.args.disk.now c.args.wire.now)) (sym message_is)
@@ -125,7 +124,6 @@ returns-in_ok-send-in-Ask-clause-hands g c = λ p at_p start w order is_in. (
       notes = c.reserve-2.new.self;
       takes = c.args.self.now.takes;
       waited = c.args.self.now.waited;
-      course = c.args.self.now.course;
     } in
     let request = c.in-Ask.request in
     let due = owed old.registry (kept old.service.state) request in
@@ -148,7 +146,6 @@ returns-in_ok-send-in-Ask-clause-ready g c =
       notes = c.reserve-2.new.self;
       takes = c.args.self.now.takes;
       waited = c.args.self.now.waited;
-      course = c.args.self.now.course;
     } in
     ready_served g.D.Disk c.args.disk.now c.serve.new.disk c.args.self.now new c.requires.ready refl c.in_ok-send-in-Ask.ensures.packets refl c.in_ok-served-in-Ask.ensures.serving c.serve.ensures.others
 
@@ -164,7 +161,6 @@ returns-in_ok-send_requests-in-Answer-clause-hands g c = λ p at_p start w order
       notes = c.note.new.notes;
       takes = c.args.self.now.takes;
       waited = c.args.self.now.waited;
-      course = c.args.self.now.course;
     } in
     let reply = c.in-Answer.reply in
     let k : CellAgent = c.index_mut.result.now in
@@ -198,7 +194,6 @@ returns-in_ok-send_requests-in-Answer-clause-ready g c =
       notes = c.note.new.notes;
       takes = c.args.self.now.takes;
       waited = c.args.self.now.waited;
-      course = c.args.self.now.course;
     } in
     let k : CellAgent = c.index_mut.result.now in
     let found = c.in-Some.ensures.found in
@@ -222,7 +217,6 @@ returns-in_default-clause-grows g c = grows_none c.args.self.now
       notes = c.reserve-2.new.self;
       takes = c.args.self.now.takes;
       waited = c.args.self.now.waited;
-      course = c.args.self.now.course;
     })
     c.reserve.ensures.items c.reserve-2.ensures.items
 
@@ -237,7 +231,6 @@ returns-in_ok-send-in-Ask-clause-grows g c = grows_by c.args.self.now
       notes = c.reserve-2.new.self;
       takes = c.args.self.now.takes;
       waited = c.args.self.now.waited;
-      course = c.args.self.now.course;
     })
     c.in_ok-served-in-Ask.served.step None
     (c.trace.ensures ∙ ap (λ t. traced_by c.in_ok-served-in-Ask.served.step c.args.self.now.takes t) c.reserve.ensures.items)
@@ -254,7 +247,6 @@ returns-in_ok-send_requests-in-Answer-clause-grows g c = grows_by c.args.self.no
       notes = c.note.new.notes;
       takes = c.args.self.now.takes;
       waited = c.args.self.now.waited;
-      course = c.args.self.now.course;
     })
     c.in_ok-told-in-Answer.told.step c.in_ok-told-in-Answer.told.ended
     (c.trace-in-Answer.ensures ∙ ap (λ t. traced_by c.in_ok-told-in-Answer.told.step c.args.self.now.takes t) c.reserve.ensures.items)

@@ -1,49 +1,55 @@
-use Rattle.std.proofs.Common.{List, refl, subst}
+use Rattle.std.proofs.Common.{◌≡◌, ℕ, List, drop, length, IsTrue, refl, sym, ◌∙◌, ap, subst, arith}
+use Rattle.std.specs.Prelude.{option_copied, vec_len}
+use Rattle.claim_types.specs.declared.rule.Note.{Note}
+use Rattle.claim_types.specs.declared.step.Transition.{Transition}
 use Rattle.claim_laws.specs.Events.{Event}
-use Rattle.cells_world.specs.Lines.{AreOf}
-use Rattle.cells_world.specs.World.{Goes, at as moment}
+use Rattle.cells_script.specs.declared.answer.Answer.{Answer}
+use Rattle.cells_world.specs.Answers.{answer_by, begun_of, course_of, puts_first}
+use Rattle.cells_world.specs.Course.{reply_of}
+use Rattle.cells_world.specs.Follows.{AreEventsOf, Drains}
+use Rattle.cells_world.specs.Post.{packet_of, packets_of}
+use Rattle.cells_world.specs.World.{Goes, HandsOver, at as moment}
 use Rattle.cells_world.specs.declared.cluster.Cluster.{Cluster}
-use Rattle.cells_world.proofs.Acting.{same_in}
-use Rattle.cells_world.proofs.Growing.{grows_from, grows_noted, grows_on}
-use Rattle.cells_world.proofs.Following.{follows}
+use Rattle.cells_world.proofs.Growing.{grows_noted, grows_on}
+use Rattle.cells_world.proofs.Following.{comes_to, follows}
+use Rattle.cells_world.proofs.Posted.{map_length}
+use Rattle.cells_world.proofs.Putting.{puts_on}
 use Rattle.cells_world.proofs.cluster.Cluster.line.Goals as goal
 
--- the line's own event at its moment, and then packets
+-- the line's own event at its moment, and then packets, and the answer that these bring
 pub returns-clause-follows : goal.returns-clause-follows
 returns-clause-follows g c = λ start w order is_in. (
     let old : Cluster = c.args.self.now in
-    let idle : Cluster = record {
-      registry = c.args.self.now.registry;
-      service = c.args.self.now.service;
-      cells = c.args.self.now.cells;
-      post = c.args.self.now.post;
-      trace = c.args.self.now.trace;
-      notes = c.args.self.now.notes;
-      takes = c.args.self.now.takes;
-      waited = c.args.self.now.waited;
-      course = c.idle-self.result;
-    } in
+    let new : Cluster = c.take_behind.new.self in
     let before = moment old c.args.disk.now c.args.wire.now in
-    let after = moment c.take_all.new.self c.take_all.new.disk c.take_all.new.wire in
-    subst (λ m. (es : List Event) × AreOf w m c.args.line.now es × Goes g.D.Disk g.N.Wire old.registry w before after es) c.moment-now.ensures
-    (follows g.D.Disk g.N.Wire before after c.begin.new.self c.begin.new.wire c.moment-now.result c.args.line.now g.met.D.Disk.only_now c.requires.ready c.begin.ensures.same.registry
-    (λ s v in_order is. c.in_ok-begun.ensures.acts s v in_order (same_in old idle v is refl refl refl refl refl refl))
-    c.begin.ensures.handed c.in_ok-take_all.ensures.hands start w order is_in))
+    let after = moment new c.take_behind.new.disk c.take_behind.new.wire in
+    let begun = c.in_ok-begun.begun in
+    let answer = c.in_ok-answer.field-0 in
+    let mid : Cluster = c.begin.new.self in
+    let sent : length c.sent.result.now ≡ length (packets_of mid.post) = ap length c.sent.ensures ∙ sym (map_length packet_of mid.post.sent.items) in
+    let course = c.course-course.ensures ∙ ap (course_of begun) sent in
+    let all_steps : vec_len old.trace ≡ length old.trace.items = let ok = c.args.self.now.trace.ok.0 in omega (arith, ok) in
+    let all_notes : vec_len old.notes ≡ length old.notes.items = let ok = c.args.self.now.notes.ok.0 in omega (arith, ok) in
+    let steps = c.behind.ensures ∙ ap (λ (k : ℕ). drop k c.as_slice.result.now) (c.len-steps.ensures ∙ all_steps) ∙ ap (λ (t : List Transition). drop (length old.trace.items) t) c.as_slice.ensures.value in
+    let notes = c.behind-2.ensures ∙ ap (λ (k : ℕ). drop k c.as_slice-2.result.now) (c.len-notes.ensures ∙ all_notes) ∙ ap (λ (t : List Note). drop (length old.notes.items) t) c.as_slice-2.ensures.value in
+    let is_answer : answer ≡ comes_to begun old.trace.items new.trace.items old.notes.items new.notes.items (packets_of new.post) c.take_behind.new.course =
+    c.in_ok-answer.ensures
+    ∙ ap (λ (t : List Transition). answer_by begun t c.behind-2.result.now (option_copied c.reply.result)) steps
+    ∙ ap (λ (t : List Note). answer_by begun (drop (length old.trace.items) new.trace.items) t (option_copied c.reply.result)) notes
+    ∙ ap (answer_by begun (drop (length old.trace.items) new.trace.items) (drop (length old.notes.items) new.notes.items)) c.reply.ensures in
+    subst (λ m. (es : List Event) × AreEventsOf old.registry w m c.args.line.now answer es × Goes g.D.Disk g.N.Wire old.registry w before after es
+    × (IsTrue (puts_first (begun_of w m c.args.line.now)) → Drains g.N.Wire c.args.wire.now c.take_behind.new.wire old.takes new.takes)) c.moment-now.ensures
+    (follows g.D.Disk g.N.Wire before after mid c.begin.new.wire c.moment-now.result c.args.line.now begun c.take_behind.new.course answer
+    g.met.D.Disk.only_now c.requires.ready c.begin.ensures.same.registry c.in_ok-begun.ensures.acts c.in_ok-begun.ensures.begun c.begin.ensures.handed
+    (subst (λ q. HandsOver g.D.Disk g.N.Wire q c.take_behind.new.course (moment mid c.args.disk.now c.begin.new.wire) after) course c.in_ok-take_behind.ensures.hands)
+    c.take_behind.ensures.takes (λ none. c.take_behind.ensures.quiet (c.puts.ensures ∙ none)) (λ puts. c.in_ok-take_behind.ensures.drains (c.puts.ensures ∙ puts)) c.begin.ensures.later c.begin.ensures.same.takes
+    is_answer start w order is_in))
 
 -- the notes of its own event, and then what packets brought about
 pub returns-clause-grows : goal.returns-clause-grows
 returns-clause-grows g c =
-    let old : Cluster = c.args.self.now in
-    let idle : Cluster = record {
-      registry = c.args.self.now.registry;
-      service = c.args.self.now.service;
-      cells = c.args.self.now.cells;
-      post = c.args.self.now.post;
-      trace = c.args.self.now.trace;
-      notes = c.args.self.now.notes;
-      takes = c.args.self.now.takes;
-      waited = c.args.self.now.waited;
-      course = c.idle-self.result;
-    } in
-    grows_from old idle c.take_all.new.self refl refl
-    (grows_on idle c.begin.new.self c.take_all.new.self (grows_noted idle c.begin.new.self c.begin.ensures.same.trace c.in_ok-begun.ensures.notes) c.in_ok-take_all.ensures.grows)
+    grows_on c.args.self.now c.begin.new.self c.take_behind.new.self (grows_noted c.args.self.now c.begin.new.self c.begin.ensures.same.trace c.in_ok-begun.ensures.notes) c.in_ok-take_behind.ensures.grows
+
+-- what its own event puts, and then what packets bring about
+pub returns-clause-puts : goal.returns-clause-puts
+returns-clause-puts g c = puts_on g.N.Wire c.args.line.now c.args.wire.now c.begin.new.wire c.take_behind.new.wire c.args.self.now.post c.begin.new.self.post c.take_behind.new.self.post c.in_ok-begun.ensures.puts c.in_ok-take_behind.ensures.sends

@@ -5,6 +5,7 @@ use Rattle.cells_world.specs.Opening.{AreApart, AreOf, AreToEndFrom, IsNew, IsOn
 use Rattle.cells_world.specs.declared.cluster.Cluster.{Cluster}
 use Rattle.cells_world.proofs.Clusters.{cells_end, opened_all, ready_all, still_first}
 use Rattle.cells_world.proofs.Configured.{agent_known, agents_of, apart_of}
+use Rattle.cells_world.proofs.Openings.{twice_earlier}
 use Rattle.cells_world.proofs.Reopened.{opens_to}
 use Rattle.cells_world.proofs.cluster.Cluster.open.Goals as goal
 
@@ -30,7 +31,6 @@ returns-clause-ready g c =
       notes = c.new-3.result;
       takes = 0;
       waited = 0;
-      course = c.idle.result;
     } in
     ready_all g.D.Disk c.args.registry c.cells.ensures.legal c.args.disk.now c.open_service.new.disk c.open_agents.new.disk c.open_service.ensures.others
     c.in_ok-cells.cells.items (subst (λ l. AreOf l c.in_ok-cells.cells.items) c.cells.ensures.value c.in_ok-cells.ensures.cells) c.in_ok-cells.ensures.new
@@ -61,7 +61,6 @@ returns-clause-opens g c = λ tells still start w order configured is_of. (
       notes = c.new-3.result;
       takes = 0;
       waited = 0;
-      course = c.idle.result;
     } in
     let is_new : IsNew opened = record {
       sent = c.new.ensures.sent;
@@ -82,3 +81,9 @@ returns-clause-opens g c = λ tells still start w order configured is_of. (
     (opened_all g.D.Disk c.args.registry c.cells.ensures.legal c.args.disk.now c.open_service.new.disk c.open_agents.new.disk c.open_service.ensures.others
     c.in_ok-cells.cells.items are_of c.in_ok-cells.ensures.new c.in_ok-cells.ensures.opened tells still)
     w configured is_of)
+
+pub returns-in_err-cells-clause-twice : goal.returns-in_err-cells-clause-twice
+returns-in_err-cells-clause-twice g c =
+    let p = err_from_is_err_and c.from_residual-in_err-cells.result c.from_residual-in_err-cells.ensures.1 in
+    rw (p.1, p.2)
+    (twice_earlier g.D.Disk c.args.disk.now c.open_service.new.disk c.open_agents.new.disk c.in_err-cells.field-0.0 c.open_service.ensures.others.counts.later c.in_err-cells.ensures.twice)

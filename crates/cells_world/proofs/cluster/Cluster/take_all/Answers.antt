@@ -1,4 +1,4 @@
-use Rattle.std.proofs.Common.{◌++◌, [], refl, ◌∙◌, arith}
+use Rattle.std.proofs.Common.{inl, inr, ◌++◌, [], refl, ◌∙◌, arith}
 use Rattle.cells_world.specs.World.{at as moment}
 use Rattle.cells_world.proofs.Growing.{grows_none, grows_on}
 use Rattle.cells_world.proofs.Going.{hands_nothing, hands_on}
@@ -9,7 +9,7 @@ use Rattle.cells_world.proofs.cluster.Cluster.take_all.Goals as goal
 pub loop-init : goal.loop-init
 loop-init g c = record {
   ready = c.requires.ready;
-  hands = hands_nothing g.D.Disk g.N.Wire (moment c.args.self.now c.args.disk.now c.args.wire.now) g.met.D.Disk.only_now c.requires.ready;
+  hands = hands_nothing g.D.Disk g.N.Wire c.args.course.now (moment c.args.self.now c.args.disk.now c.args.wire.now) g.met.D.Disk.only_now c.requires.ready;
   sends = ([], sends_nothing g.N.Wire c.args.wire.now c.args.wire.now c.args.self.now.post c.args.self.now.post refl refl (λ tells. refl));
   grows = grows_none c.args.self.now c.args.self.now refl refl;
   takes = omega arith;
@@ -21,7 +21,7 @@ loop-init g c = record {
 
 pub returns-then-not-branch-clause-hands : goal.returns-then-not-branch-clause-hands
 returns-then-not-branch-clause-hands g c =
-    hands_on g.D.Disk g.N.Wire (moment c.args.self.now c.args.disk.now c.args.wire.now) (moment c.loop.self c.loop.disk c.loop.wire) (moment c.take_one.new.self c.take_one.new.disk c.take_one.new.wire)
+    hands_on g.D.Disk g.N.Wire c.args.course.now c.loop.course c.take_one.new.course (moment c.args.self.now c.args.disk.now c.args.wire.now) (moment c.loop.self c.loop.disk c.loop.wire) (moment c.take_one.new.self c.take_one.new.disk c.take_one.new.wire)
     c.loop.invariant.registry c.requires.ready.configured c.loop.invariant.hands c.in_ok-take_one.ensures.hands
 
 pub returns-then-not-branch-clause-sends : goal.returns-then-not-branch-clause-sends
@@ -37,11 +37,11 @@ loop-preserved g c =
     let now = c.in_ok-take_one.ensures.sends in
     record {
       ready = c.in_ok-take_one.ensures.ready;
-      hands = hands_on g.D.Disk g.N.Wire (moment c.args.self.now c.args.disk.now c.args.wire.now) (moment c.loop.self c.loop.disk c.loop.wire) (moment c.take_one.new.self c.take_one.new.disk c.take_one.new.wire)
+      hands = hands_on g.D.Disk g.N.Wire c.args.course.now c.loop.course c.take_one.new.course (moment c.args.self.now c.args.disk.now c.args.wire.now) (moment c.loop.self c.loop.disk c.loop.wire) (moment c.take_one.new.self c.take_one.new.disk c.take_one.new.wire)
           c.loop.invariant.registry c.requires.ready.configured c.loop.invariant.hands c.in_ok-take_one.ensures.hands;
       sends = (before.0 ++ now.0, sends_on g.N.Wire c.args.wire.now c.loop.wire c.take_one.new.wire c.args.self.now.post c.loop.self.post c.take_one.new.self.post before.0 now.0 before.1 now.1);
       grows = grows_on c.args.self.now c.loop.self c.take_one.new.self c.loop.invariant.grows c.in_ok-take_one.ensures.grows;
-      takes = let a = c.loop.invariant.takes in let b = c.take_one.ensures.takes in omega (arith, a, b);
+      takes = let a = c.loop.invariant.takes in let b = c.in_ok-take_one.ensures.given c.if-not-branch.false in omega (arith, a, b);
       registry = c.take_one.ensures.registry ∙ c.loop.invariant.registry;
       waited = c.take_one.ensures.waited ∙ c.loop.invariant.waited;
       disk_later = let a = c.loop.invariant.disk_later in let b = c.take_one.ensures.later.0 in omega (arith, a, b);
@@ -50,3 +50,10 @@ loop-preserved g c =
 
 pub returns-then-not-branch-clause-grows : goal.returns-then-not-branch-clause-grows
 returns-then-not-branch-clause-grows g c = grows_on c.args.self.now c.loop.self c.take_one.new.self c.loop.invariant.grows c.in_ok-take_one.ensures.grows
+
+-- a take gave none, or as many were taken as a line may take
+pub returns-then-not-branch-clause-drains : goal.returns-then-not-branch-clause-drains
+returns-then-not-branch-clause-drains g c = λ tells still. inl (c.in_ok-take_one.ensures.drained c.if-not-branch.true tells (λ rose. still (let on = c.loop.invariant.wire_later in omega (arith, rose, on))))
+
+pub returns-clause-drains : goal.returns-clause-drains
+returns-clause-drains g c = λ tells still. inr (let takes = c.loop.invariant.takes in omega (arith, takes))

@@ -1,6 +1,6 @@
-use Rattle.std.proofs.Common.{◌+◌, refl, ◌∙◌, subst}
-use Rattle.std.specs.Prelude.{Ok}
-use Rattle.cells_edge.specs.Wire.{IsTaken}
+use Rattle.std.proofs.Common.{◌+◌, refl, ◌∙◌, ap, subst}
+use Rattle.std.specs.Prelude.{Ok, Err}
+use Rattle.cells_edge.specs.Wire.{IsFront, IsTaken}
 use Rattle.cells_world.specs.World.{at as moment}
 use Rattle.cells_world.specs.declared.cluster.Cluster.{Cluster}
 use Rattle.cells_world.proofs.Growing.{grows_from, grows_none}
@@ -10,11 +10,11 @@ use Rattle.cells_world.proofs.cluster.Cluster.take_one.Goals as goal
 
 pub returns-in-Ok-None-clause-hands : goal.returns-in-Ok-None-clause-hands
 returns-in-Ok-None-clause-hands g c =
-    hands_none g.D.Disk g.N.Wire (moment c.args.self.now c.args.disk.now c.args.wire.now) c.take.new.self g.met.D.Disk.only_now c.requires.ready (λ tells. subst (λ o. IsTaken (Ok o) (g.N.Wire.handed c.args.wire.now) (g.N.Wire.handed c.take.new.self)) c.in-Ok-None.field-0-is (c.in-Ok-None.ensures.handed tells))
+    hands_none g.D.Disk g.N.Wire c.args.course.now (moment c.args.self.now c.args.disk.now c.args.wire.now) c.take.new.self g.met.D.Disk.only_now c.requires.ready (λ tells. subst (λ o. IsTaken (Ok o) (g.N.Wire.handed c.args.wire.now) (g.N.Wire.handed c.take.new.self)) c.in-Ok-None.field-0-is (c.in-Ok-None.ensures.handed tells))
 
 pub returns-in-Err-Failed-clause-hands : goal.returns-in-Err-Failed-clause-hands
 returns-in-Err-Failed-clause-hands g c =
-    hands_none g.D.Disk g.N.Wire (moment c.args.self.now c.args.disk.now c.args.wire.now) c.take.new.self g.met.D.Disk.only_now c.requires.ready (λ tells. c.in-Err-Failed.ensures.handed tells)
+    hands_none g.D.Disk g.N.Wire c.args.course.now (moment c.args.self.now c.args.disk.now c.args.wire.now) c.take.new.self g.met.D.Disk.only_now c.requires.ready (λ tells. c.in-Err-Failed.ensures.handed tells)
 
 pub hand-requires-clause-place : goal.hand-requires-clause-place
 hand-requires-clause-place g c = sent_within c.args.self.now.post c.in-Some.at c.in-Ok-Some.packet c.in-Some.ensures.found
@@ -30,12 +30,11 @@ returns-in-Some-clause-hands g c =
       notes = c.args.self.now.notes;
       takes = c.args.self.now.takes + 1;
       waited = c.args.self.now.waited;
-      course = c.after-self.result;
     } in
     hands_sent g.D.Disk g.N.Wire (moment c.args.self.now c.args.disk.now c.args.wire.now) counted c.in-Ok-Some.packet
     (record { registry = refl; service = refl; cells = refl; sent = refl; trace = refl; notes = refl; takes = refl })
-    c.in-Some.at (moment c.hand.new.self c.hand.new.disk c.hand.new.wire) c.take.new.self
-    c.in-Some.ensures.found c.in_ok-hand-in-Some.ensures.hands
+    c.args.course.now c.after.result c.in-Some.at (moment c.hand.new.self c.hand.new.disk c.hand.new.wire) c.take.new.self
+    c.in-Some.ensures.found c.in_ok-hand-in-Some.ensures.hands c.after.ensures c.hand.ensures.same.takes
     (λ tells. c.hand.ensures.handed tells ∙ subst (λ o. IsTaken (Ok o) (g.N.Wire.handed c.args.wire.now) (g.N.Wire.handed c.take.new.self)) c.in-Ok-Some.field-0-is (c.in-Ok-Some.ensures.handed tells))
 
 -- one that nobody here sent
@@ -50,11 +49,10 @@ returns-clause-hands g c =
       notes = c.args.self.now.notes;
       takes = c.args.self.now.takes + 1;
       waited = c.args.self.now.waited;
-      course = c.args.self.now.course;
     } in
     hands_stray g.D.Disk g.N.Wire (moment c.args.self.now c.args.disk.now c.args.wire.now) counted c.in-Ok-Some.packet
     (record { registry = refl; service = refl; cells = refl; sent = refl; trace = refl; notes = refl; takes = refl })
-    c.take.new.self g.met.D.Disk.only_now c.requires.ready c.in-None.ensures.missing (λ tells. subst (λ o. IsTaken (Ok o) (g.N.Wire.handed c.args.wire.now) (g.N.Wire.handed c.take.new.self)) c.in-Ok-Some.field-0-is (c.in-Ok-Some.ensures.handed tells))
+    c.args.course.now c.take.new.self g.met.D.Disk.only_now c.requires.ready c.in-None.ensures.missing (λ tells. subst (λ o. IsTaken (Ok o) (g.N.Wire.handed c.args.wire.now) (g.N.Wire.handed c.take.new.self)) c.in-Ok-Some.field-0-is (c.in-Ok-Some.ensures.handed tells))
 
 pub returns-in-Ok-None-clause-grows : goal.returns-in-Ok-None-clause-grows
 returns-in-Ok-None-clause-grows g c = grows_none c.args.self.now c.args.self.now refl refl
@@ -73,7 +71,6 @@ returns-in-Some-clause-grows g c = grows_from c.args.self.now
       notes = c.args.self.now.notes;
       takes = c.args.self.now.takes + 1;
       waited = c.args.self.now.waited;
-      course = c.after-self.result;
     })
     c.hand.new.self refl refl c.in_ok-hand-in-Some.ensures.grows
 
@@ -88,6 +85,12 @@ returns-clause-grows g c = grows_none c.args.self.now
       notes = c.args.self.now.notes;
       takes = c.args.self.now.takes + 1;
       waited = c.args.self.now.waited;
-      course = c.args.self.now.course;
     })
     refl refl
+
+-- nothing is on its way, or the count rose
+pub returns-in-Ok-None-clause-drained : goal.returns-in-Ok-None-clause-drained
+returns-in-Ok-None-clause-drained g c = λ none tells still. (subst (λ o. IsFront (Ok o) (g.N.Wire.queued c.args.wire.now) (g.N.Wire.queued c.take.new.self)) c.in-Ok-None.field-0-is (c.in-Ok-None.ensures.front tells still)).1
+
+pub returns-in-Err-Failed-clause-drained : goal.returns-in-Err-Failed-clause-drained
+returns-in-Err-Failed-clause-drained g c = λ none tells still. absurd (still (c.in-Err-Failed.ensures.cause.failed (ap Err c.in-Err-Failed.field-0-is)))

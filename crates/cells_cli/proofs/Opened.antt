@@ -29,7 +29,7 @@ use Rattle.cells_world.proofs.Served.{ready_is_of}
 use Rattle.cells_cli.specs.Doing.{Does, EndsSo, HasItsCause, status_of_cluster}
 use Rattle.cells_cli.specs.ScriptLines.{script_lines_of}
 use Rattle.cells_cli.specs.Script.{line_refused, lines_done}
-use Rattle.cells_cli.specs.Told.{Telling, lines_told, steps_told}
+use Rattle.cells_cli.specs.Told.{Telling, steps_told}
 use Rattle.cells_cli.specs.Ups.{OpensSo, Traces, Ups, WhereOpened, nothing_told}
 use Rattle.cells_cli.specs.Went.{Brings}
 use Rattle.cells_cli.specs.declared.status.Status.{Status}
@@ -76,7 +76,7 @@ module _ {S W D N : Type 0} (s : SourceGhosts S) (w : SinkGhosts W) (d : DiskGho
         let v = o.0 in
         let order_v = start-in_order registry v (opened_is_start registry start world v legal_cells order o.1) in
         let there = does.went.brings v.claims v (subst (λ r. IsInOrder r v.claims v) (sym same) order_v) o.2 in
-        let b = subst (λ r. Brings d n r v (lines_told does.told.items) (moment cluster opened wire) does.here) same there in
+        let b = subst (λ r. Brings d n r v does.told.items (moment cluster opened wire) does.here) same there in
         let after = run registry b.events v in
         let order_after = run-in_order registry v.claims (wide_of registry legal_cells) b.events v order_v in
         let trace : after.trace ≡ steps_told does.told.items = b.goes.now.trace ∙ does.went.trace ∙ ap (λ (ts : List Transition). ts ++ steps_told does.told.items) fresh.trace in
@@ -84,7 +84,7 @@ module _ {S W D N : Type 0} (s : SourceGhosts S) (w : SinkGhosts W) (d : DiskGho
           opened = v;
           again = o.1;
           events = b.events;
-          of_lines = b.of_lines;
+          of_items = b.of_items;
           trace = trace;
           legal = subst (λ s0. IsRun registry s0 [] 0 after.handed (steps_told does.told.items)) o.1.claims (subst (IsRun registry v.claims [] 0 after.handed) trace order_after.legal);
           replayed = ap (λ s0. replay s0 (steps_told does.told.items)) (sym o.1.claims) ∙ ap (replay v.claims) (sym trace) ∙ order_after.stands;

@@ -44,10 +44,10 @@ whole_report tells wanted refused told other report apart h = h
 module _ {D N : Type 0} (d : DiskGhosts D) (n : WireGhosts N) (registry : Registry) (world : Rattle.claim_laws.specs.World.World) (told : Telling) (disk_now : D) (wire wire_now : N) where
   -- of a run that ended for want of memory, or at a fault of writing, less is said
   less_in_memory : (status : Status) → Traces d n registry world told.items disk_now wire wire_now status → Traces d n registry world told.items disk_now wire wire_now Memory
-  less_in_memory status t = record { opened = t.opened; again = t.again; events = t.events; of_lines = t.of_lines; trace = t.trace; legal = t.legal; replayed = t.replayed; handed = λ h. absurd h; stands = λ h. absurd h }
+  less_in_memory status t = record { opened = t.opened; again = t.again; events = t.events; of_items = t.of_items; trace = t.trace; legal = t.legal; replayed = t.replayed; handed = λ h. absurd h; stands = λ h. absurd h }
 
   less_in_writing : (status : Status) → Traces d n registry world told.items disk_now wire wire_now status → Traces d n registry world told.items disk_now wire wire_now WriteFault
-  less_in_writing status t = record { opened = t.opened; again = t.again; events = t.events; of_lines = t.of_lines; trace = t.trace; legal = t.legal; replayed = t.replayed; handed = λ h. absurd h; stands = λ h. absurd h }
+  less_in_writing status t = record { opened = t.opened; again = t.again; events = t.events; of_items = t.of_items; trace = t.trace; legal = t.legal; replayed = t.replayed; handed = λ h. absurd h; stands = λ h. absurd h }
 
   either : (status : Status) (T U : Type 0) → (T → U) → WhereOpened status told T → (told ≡ nothing_told) ⊎ U
   either End T U f h = inr (f h)

@@ -2,9 +2,8 @@
 use Rattle.std.proofs.Common.{◌≡◌, ℕ, List, [], ◌∷◌, ◌++◌, Option, refl, sym, ◌∙◌, ap, append_assoc}
 use Rattle.claim_types.specs.declared.rule.Note.{Note}
 use Rattle.claim_types.specs.declared.step.Transition.{Transition}
-use Rattle.cells_script.specs.declared.line.Line.{Line}
 use Rattle.cells_cli.specs.Script.{Numbered}
-use Rattle.cells_cli.specs.Told.{Item, Broken, item_text, items_text, broken_text, numbered, numbered_broken, lines_told, notes_told, steps_told}
+use Rattle.cells_cli.specs.Told.{Item, Broken, item_text, items_text, broken_text, numbered, numbered_broken, notes_told, steps_told}
 
 pub steps_append : (items more : List Item) → steps_told (items ++ more) ≡ steps_told items ++ steps_told more
 steps_append [] more = refl
@@ -13,10 +12,6 @@ steps_append (item ∷ items) more = ap (λ (t : List Transition). item.steps ++
 pub notes_append : (items more : List Item) → notes_told (items ++ more) ≡ notes_told items ++ notes_told more
 notes_append [] more = refl
 notes_append (item ∷ items) more = ap (λ (t : List Note). item.notes ++ t) (notes_append items more) ∙ sym (append_assoc item.notes (notes_told items) (notes_told more))
-
-pub lines_append : (items more : List Item) → lines_told (items ++ more) ≡ lines_told items ++ lines_told more
-lines_append [] more = refl
-lines_append (item ∷ items) more = ap (λ (t : List Line). item.line ∷ t) (lines_append items more)
 
 pub numbered_append : (items more : List Item) → numbered (items ++ more) ≡ numbered items ++ numbered more
 numbered_append [] more = refl

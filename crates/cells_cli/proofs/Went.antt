@@ -2,16 +2,14 @@
 use Rattle.std.proofs.Common.{◌≡◌, ℕ, List, [], ◌∷◌, ◌++◌, refl, sym, ◌∙◌, ap, subst, append_assoc}
 use Rattle.std.proofs.lemmas.List.{append-nil}
 use Rattle.disk_journal.specs.declared.disk.Disk.{Ghosts}
-use Rattle.disk_journal.specs.Disk.{Image}
-use Rattle.disk_journal.proofs.Moments.{OnlyNow, started, joins}
-use Rattle.cells_edge.specs.declared.wire.Packet.{Packet as WirePacket}
+use Rattle.disk_journal.proofs.Moments.{OnlyNow, started}
 use Rattle.cells_edge.specs.declared.wire.Wire.{Ghosts as WireGhosts}
 use Rattle.claim_map.specs.Bounds.{AreCells}
 use Rattle.claim_map.specs.Registry.{Registry}
 use Rattle.claim_map.proofs.Configured.{wide_of}
 use Rattle.claim_types.specs.declared.rule.Note.{Note}
 use Rattle.claim_types.specs.declared.step.Transition.{Transition}
-use Rattle.claim_laws.specs.Events.{Event, happens, run}
+use Rattle.claim_laws.specs.Events.{Event, run}
 use Rattle.claim_laws.specs.Facts.{IsInOrder}
 use Rattle.claim_laws.specs.World.{World}
 use Rattle.claim_laws.proofs.Law.{run-in_order}
@@ -19,61 +17,29 @@ use Rattle.cells_script.specs.declared.answer.Answer.{Answer}
 use Rattle.cells_script.specs.declared.line.Line.{Line}
 use Rattle.cells_world.specs.Cluster.{IsReady}
 use Rattle.cells_world.specs.Ending.{GoesOn}
-use Rattle.cells_world.specs.Lines.{Follows, moment_of}
-use Rattle.cells_world.specs.World.{At, AreGiven, Goes, IsIn, IsOf, IsReached}
-use Rattle.cells_world.proofs.Going.{run_append}
+use Rattle.cells_world.specs.Follows.{Follows}
+use Rattle.cells_world.specs.Lines.{moment_of}
+use Rattle.cells_world.specs.World.{At, IsIn, IsReached}
+use Rattle.cells_world.proofs.Going.{goes_on, run_append}
 use Rattle.cells_world.proofs.Served.{ready_is_of}
-use Rattle.cells_cli.specs.Told.{Item, lines_told, notes_told, steps_told}
-use Rattle.cells_cli.specs.Went.{AreOfLines, Brings, Went}
-use Rattle.cells_cli.proofs.Telling.{steps_append, notes_append, lines_append}
+use Rattle.cells_cli.specs.Told.{Item, notes_told, steps_told}
+use Rattle.cells_cli.specs.Went.{AreOfItems, Brings, Went}
+use Rattle.cells_cli.proofs.Telling.{steps_append, notes_append}
 
 module _ (registry : Registry) where
-  reached_sooner : (w : World) (es fs : List Event) (img : Image) → IsReached registry w es img → IsReached registry w (es ++ fs) img
-  reached_sooner w es fs img is = record {
-    front = is.front;
-    rest = is.rest ++ fs;
-    cut = sym (append_assoc is.front is.rest fs) ∙ ap (λ x. x ++ fs) is.cut;
-    is_of = is.is_of;
-  }
-
-  reached_later : (w : World) (es fs : List Event) (img : Image) → IsReached registry (run registry es w) fs img → IsReached registry w (es ++ fs) img
-  reached_later w es fs img is = record {
-    front = es ++ is.front;
-    rest = is.rest;
-    cut = append_assoc es is.front is.rest ∙ ap (λ x. es ++ x) is.cut;
-    is_of = subst (IsOf registry img) (sym (run_append registry es is.front w)) is.is_of;
-  }
-
-  given_append : (w : World) (ps : List WirePacket) (es : List Event) (qs : List WirePacket) (fs : List Event) → AreGiven registry w ps es → AreGiven registry (run registry es w) qs fs → AreGiven registry w (ps ++ qs) (es ++ fs)
-  given_append w ps [] qs fs first second = subst (λ x. AreGiven registry w x fs) (ap (λ x. x ++ qs) (sym first)) second
-  given_append w ps (e ∷ es) qs fs first second =
-      (first.0, first.1 ++ qs, ap (λ x. x ++ qs) first.2 ∙ append_assoc first.0 first.1 qs, first.3, given_append (happens registry w e) first.1 es qs fs first.4 second)
-
-  of_lines_append : (lines more : List Line) (w : World) (es fs : List Event) → AreOfLines registry w lines es → AreOfLines registry (run registry es w) more fs → AreOfLines registry w (lines ++ more) (es ++ fs)
-  of_lines_append [] more w es fs first second =
-      subst (λ x. AreOfLines registry w more (x ++ fs)) (sym first) (subst (λ x. AreOfLines registry (run registry x w) more fs) first second)
-  of_lines_append (line ∷ lines) more w es fs first second = (
+  of_items_append : (items more : List Item) (w : World) (es fs : List Event) → AreOfItems registry w items es → AreOfItems registry (run registry es w) more fs → AreOfItems registry w (items ++ more) (es ++ fs)
+  of_items_append [] more w es fs first second =
+      subst (λ x. AreOfItems registry w more (x ++ fs)) (sym first) (subst (λ x. AreOfItems registry (run registry x w) more fs) first second)
+  of_items_append (item ∷ items) more w es fs first second = (
     first.0,
     first.1,
     first.2 ++ fs,
     ap (λ x. x ++ fs) first.3 ∙ append_assoc first.1 first.2 fs,
     first.4,
-    of_lines_append lines more (run registry first.1 w) first.2 fs first.5 (subst (λ v. AreOfLines registry v more fs) (ap (λ x. run registry x w) first.3 ∙ run_append registry first.1 first.2 w) second),
+    of_items_append items more (run registry first.1 w) first.2 fs first.5 (subst (λ v. AreOfItems registry v more fs) (ap (λ x. run registry x w) first.3 ∙ run_append registry first.1 first.2 w) second),
   )
 
 module _ {D N : Type 0} (g : Ghosts D) (n : WireGhosts N) where
-  goes_on : (registry : Registry) (w : World) (a b c : At D N) (es fs : List Event) → Goes g n registry w a b es → Goes g n registry (run registry es w) b c fs → Goes g n registry w a c (es ++ fs)
-  goes_on registry w a b c es fs first second = record {
-    now = subst (IsIn c.cluster) (sym (run_append registry es fs w)) second.now;
-    moments = joins g a.disk b.disk c.disk (IsReached registry w es) (IsReached registry (run registry es w) fs) (IsReached registry w (es ++ fs)) first.moments second.moments
-        (λ img is. reached_sooner registry w es fs img is)
-        (λ img is. reached_later registry w es fs img is);
-    handed = λ tells. (
-        let one = first.handed tells in
-        let two = second.handed tells in
-        (one.0 ++ two.0, two.1 ∙ ap (λ h. h ++ two.0) one.1 ∙ append_assoc (n.handed a.wire) one.0 two.0, given_append registry w one.0 es two.0 fs one.2 two.2));
-  }
-
   -- lines, and then others
   pub went_on : (a b c : At D N) (items more : List Item) → AreCells a.cluster.registry → Went g n a items b → Went g n b more c → Went g n a (items ++ more) c
   went_on a b c items more configured first second = record {
@@ -86,11 +52,11 @@ module _ {D N : Type 0} (g : Ghosts D) (n : WireGhosts N) where
         let w_then = run registry one.events w in
         let order_then = run-in_order registry start (wide_of registry configured) one.events w order in
         let there = second.brings start w_then (subst (λ r. IsInOrder r start w_then) (sym first.registry) order_then) one.goes.now in
-        let two = subst (λ r. Brings g n r w_then (lines_told more) b c) first.registry there in
+        let two = subst (λ r. Brings g n r w_then more b c) first.registry there in
         record {
           events = one.events ++ two.events;
-          of_lines = subst (λ ls. AreOfLines registry w ls (one.events ++ two.events)) (sym (lines_append items more)) (of_lines_append registry (lines_told items) (lines_told more) w one.events two.events one.of_lines two.of_lines);
-          goes = goes_on registry w a b c one.events two.events one.goes two.goes;
+          of_items = of_items_append registry items more w one.events two.events one.of_items two.of_items;
+          goes = goes_on g n registry w a b c one.events two.events one.goes two.goes;
         });
   }
 
@@ -102,7 +68,7 @@ module _ {D N : Type 0} (g : Ghosts D) (n : WireGhosts N) where
     notes = sym (append-nil a.cluster.notes.items);
     brings = λ start w order is_in. record {
       events = [];
-      of_lines = refl;
+      of_items = refl;
       goes = record {
         now = is_in;
         moments = λ tells. started g a.disk (IsReached a.cluster.registry w []) only_now (λ img is. record { front = []; rest = []; cut = refl; is_of = ready_is_of g a.disk a.cluster w ready tells is_in img is });
@@ -112,12 +78,12 @@ module _ {D N : Type 0} (g : Ghosts D) (n : WireGhosts N) where
   }
 
   -- a line that was answered
-  pub went_line : (a c : At D N) (number now : ℕ) (line : Line) (answer : Answer) (grows : GoesOn a.cluster c.cluster) → c.cluster.registry ≡ a.cluster.registry → Follows g n now line a c → Went g n a (record { number = number; line = line; notes = grows.notes; steps = grows.steps; answer = answer } ∷ []) c
+  pub went_line : (a c : At D N) (number now : ℕ) (line : Line) (answer : Answer) (grows : GoesOn a.cluster c.cluster) → c.cluster.registry ≡ a.cluster.registry → Follows g n now line answer a c → Went g n a (record { number = number; line = line; notes = grows.notes; steps = grows.steps; answer = answer } ∷ []) c
   went_line a c number now line answer grows same follows = record {
     registry = same;
     trace = grows.trace ∙ ap (λ (t : List Transition). a.cluster.trace.items ++ t) (sym (append-nil grows.steps));
     notes = grows.noted ∙ ap (λ (t : List Note). a.cluster.notes.items ++ t) (sym (append-nil grows.notes));
     brings = λ start w order is_in. (
         let it = follows start w order is_in in
-        record { events = it.0; of_lines = (moment_of a.cluster now, it.0, [], sym (append-nil it.0), it.1, refl); goes = it.2 });
+        record { events = it.0; of_items = (moment_of a.cluster now, it.0, [], sym (append-nil it.0), it.1, refl); goes = it.2 });
   }

@@ -72,10 +72,6 @@ abbrev pub numbered_broken : Option Broken → List Numbered
 numbered_broken None = []
 numbered_broken (Some broken) = record { number = broken.number; line = broken.line } ∷ []
 
-abbrev pub lines_told : List Item → List Line
-lines_told [] = []
-lines_told (item ∷ items) = item.line ∷ lines_told items
-
 -- their notes, and their transitions, in order
 abbrev pub notes_told : List Item → List Note
 notes_told [] = []

@@ -25,8 +25,8 @@ use Rattle.cells_cli.specs.Doing.{AreTold, IsBetween, IsWritten}
 use Rattle.cells_cli.specs.ScriptLines.{script_lines_of}
 use Rattle.cells_cli.specs.Script.{Numbered, lines_done, line_refused}
 use Rattle.cells_cli.specs.Status.{last_line}
-use Rattle.cells_cli.specs.Told.{Item, Telling, lines_told, steps_told, telling_text}
-use Rattle.cells_cli.specs.Went.{AreOfLines}
+use Rattle.cells_cli.specs.Told.{Item, Telling, steps_told, telling_text}
+use Rattle.cells_cli.specs.Went.{AreOfItems}
 use Rattle.cells_cli.specs.declared.status.Status.{Status}
 use Rattle.cells_cli.specs.declared.status.Status.TheVariants.{End, Script, ReadFault, WriteFault, Memory, DiskFault, NotAJournal, BadEntry, ConfigLacks, EpochsSpent}
 
@@ -39,13 +39,13 @@ abbrev pub HandsThese : {N : Type 0} → WireGhosts N → Registry → World →
 HandsThese n registry w events wire wire_now = IsTrue n.tells → (given : List WirePacket) × (n.handed wire_now ≡ n.handed wire ++ given) × AreGiven registry w given events
 
 -- The transitions that are told are a run of legal steps from the claim map of a world that the files stood for: every node was opened
--- again, and then came the events of the lines, in order. Where the run ended between two lines, the packets of the events are those that
+-- again, and then came the events of the lines, in order, and each line's answer is what its events bring. Where the run ended between two lines, the packets of the events are those that
 -- the wire handed over, and the files stand for the world behind them, whatever a crash leaves.
 pub record Traces {D N : Type 0} (d : DiskGhosts D) (n : WireGhosts N) (registry : Registry) (w : World) (items : List Item) (disk_now : D) (wire wire_now : N) (status : Status) : Type 0 where
   pub opened : World
   pub again : IsReopened w opened
   pub events : List Event
-  pub of_lines : AreOfLines registry opened (lines_told items) events
+  pub of_items : AreOfItems registry opened items events
   pub trace : (run registry events opened).trace ≡ steps_told items
   pub legal : IsRun registry w.claims [] 0 (run registry events opened).handed (steps_told items)
   pub replayed : replay w.claims (steps_told items) ≡ (run registry events opened).claims

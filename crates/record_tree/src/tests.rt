@@ -237,8 +237,8 @@ fn each_kind_stands_below_its_own(rt: HostRuntime) -> Result<(), Fail> {
     let tree = one_of_each_kind(alloc)?;
     assert_eq!(rt; tree.records().len(), 7);
     let fingerprint = [b'a'; 64];
-    // Of each kind, with a name that it may have, the answers below nothing; below an organization, a group, a project,
-    // a user, a key, an address and a domain; and below an identifier that no record has.
+    // Of each kind, with a name that it may have, the answers below nothing; below an organization, a
+    // group, a project, a user, a key, an address and a domain; and below an identifier without a record.
     let rows = [
         (Kind::Organization, b"x".as_slice(), b"+wwwwwwwn"),
         (Kind::Group, b"x", b"n++wwwwwn"),
@@ -268,7 +268,7 @@ fn a_part_of_a_path_may_be_renamed(rt: HostRuntime) -> Result<(), Fail> {
     Ok(())
 }
 
-// Whether a name is as good or as bad as is said: no rule speaks against the change, or the one on names.
+// Whether a name is as good or as bad as is said: no rule speaks against its change, or the one on names.
 fn is_told(answer: Option<Rule>, good: bool) -> bool {
     match answer {
         None => good,

@@ -1,5 +1,6 @@
 -- A line: its own event, and then packets that are handed over; and the answer that these bring.
 use Rattle.std.proofs.Common.{◌≡◌, ◌⊎◌, inl, inr, ⊎_elim, ℕ, ◌+◌, ◌≤◌, false, IsTrue, List, [], ◌∷◌, ◌++◌, length, drop, refl, sym, ◌∙◌, ap, subst, arith}
+use Rattle.std.specs.List.{AllByRecursion}
 use Rattle.disk_journal.specs.declared.disk.Disk.{Ghosts}
 use Rattle.disk_journal.proofs.Moments.{OnlyNow, started}
 use Rattle.cells_edge.specs.declared.wire.Wire.{Ghosts as WireGhosts}
@@ -17,14 +18,15 @@ use Rattle.cells_script.specs.declared.line.Line.{Line}
 use Rattle.cells_world.specs.Answers.{Begins, answer_by, answer_of, begun_of, course_of, puts_first}
 use Rattle.cells_world.specs.Cluster.{IsReady}
 use Rattle.cells_world.specs.Course.{course_behind, reply_of}
-use Rattle.cells_world.specs.Follows.{AreEventsOf, Drains}
+use Rattle.cells_world.specs.Follows.{AreEventsOf, AreEventsOff, Drains}
 use Rattle.cells_world.specs.Lines.{own_events}
 use Rattle.cells_world.specs.Post.{packets_of}
-use Rattle.cells_world.specs.World.{IsIn, IsReached, At, at as moment, Goes, HandsOver}
+use Rattle.cells_world.specs.World.{IsHandOver, IsIn, IsReached, At, at as moment, Breaks, BreaksOff, Goes, HandsOver}
 use Rattle.cells_world.specs.declared.answer.Begun.{Begun}
 use Rattle.cells_world.specs.declared.cluster.Cluster.{Cluster}
 use Rattle.cells_world.specs.declared.course.Course.{Course}
 use Rattle.cells_world.specs.declared.limits.TheConstants.{TAKES_A_LINE}
+use Rattle.cells_world.proofs.Breaking.{breaks_behind_all, breaks_on}
 use Rattle.cells_world.proofs.Going.{goes_on, reached_now}
 use Rattle.std.proofs.lemmas.List.{append-nil}
 use Rattle.cells_world.proofs.Served.{ready_is_of}
@@ -57,57 +59,83 @@ module _ (registry : Registry) (old mid new : Cluster) (begun : Begun) (course :
       ∙ ap (λ b. comes_to b w.trace end.trace w.notes end.notes end.sent (course_behind registry v (course_of b (length v.sent)) taken)) is_begun
       ∙ ap (λ u. comes_to (begun_of w now line) w.trace (run registry taken u).trace w.notes (run registry taken u).notes (run registry taken u).sent (course_behind registry u (course_of (begun_of w now line) (length u.sent)) taken)) is_then
 
-module _ {D N : Type 0} (g : Ghosts D) (n : WireGhosts N) (a c : At D N) (mid : Cluster) (wire : N) (now : ℕ) (line : Line) (begun : Begun) (course : Course) (answer : Answer)
+module _ {D N : Type 0} (g : Ghosts D) (n : WireGhosts N) (a : At D N) (mid : Cluster) (wire : N) (now : ℕ) (line : Line)
     (only_now : OnlyNow g) (ready : IsReady g a.disk a.cluster) (same : mid.registry ≡ a.cluster.registry)
     (acts : (start : ClaimMap) (w : World) → IsInOrder a.cluster.registry start w → IsIn a.cluster w → IsIn mid (run a.cluster.registry (own_events w now line) w))
-    (begins : Begins now line a.cluster begun)
     (handed : IsTrue n.tells → n.handed wire ≡ n.handed a.wire)
-    (hands : HandsOver g n (course_of begun (length (packets_of mid.post))) course (moment mid a.disk wire) c)
-    (few : c.cluster.takes ≤ mid.takes + TAKES_A_LINE) (quiet : puts_first begun ≡ false → c.cluster.takes ≡ mid.takes)
-    (drains : IsTrue (puts_first begun) → Drains n wire c.wire mid.takes c.cluster.takes) (own_faults : n.faults a.wire ≤ n.faults wire) (same_takes : mid.takes ≡ a.cluster.takes)
-    (is_answer : answer ≡ comes_to begun a.cluster.trace.items c.cluster.trace.items a.cluster.notes.items c.cluster.notes.items (packets_of c.cluster.post) course)
     (start : ClaimMap) (w : World) (order : IsInOrder a.cluster.registry start w) (is_in : IsIn a.cluster w) where
   abbrev own : List Event
   own = own_events w now line
 
+  abbrev registry : Registry
+  registry = a.cluster.registry
+
+  -- the world behind the line's own event
+  abbrev behind : World
+  behind = run registry own w
+
   -- the event of the line itself
-  first : Goes g n a.cluster.registry w a (moment mid a.disk wire) own
+  first : Goes g n registry w a (moment mid a.disk wire) own
   first = record {
     now = acts start w order is_in;
-    moments = λ tells. started g a.disk (IsReached a.cluster.registry w own) only_now (λ img is. reached_now a.cluster.registry w own img (ready_is_of g a.disk a.cluster w ready tells is_in img is));
-    handed = λ tells. ([], handed tells ∙ sym (append-nil (n.handed a.wire)), own_given a.cluster.registry w now line);
+    moments = λ tells. started g a.disk (IsReached registry w own) only_now (λ img is. reached_now registry w own img (ready_is_of g a.disk a.cluster w ready tells is_in img is));
+    handed = λ tells. ([], handed tells ∙ sym (append-nil (n.handed a.wire)), own_given registry w now line);
   }
 
-  -- what was taken is nothing where no packet was put
-  nothing_taken : (taken : List Event) → c.cluster.takes ≡ mid.takes + length taken → puts_first (begun_of w now line) ≡ false → taken ≡ []
-  nothing_taken taken count none =
-      let still = quiet (ap puts_first (begins start w order is_in) ∙ none) in
-      empty_of taken (omega (arith, count, still))
+  order_behind : IsInOrder mid.registry start behind
+  order_behind = subst (λ r. IsInOrder r start behind) (sym same) (run-in_order registry start (λ cell id found. wide_of registry ready.configured cell id found) own w order)
 
-  drains_all : IsTrue (puts_first (begun_of w now line)) → Drains n a.wire c.wire a.cluster.takes c.cluster.takes
-  drains_all puts tells still =
-      let drained = drains (ap puts_first (begins start w order is_in) ∙ puts) tells (λ rose. still (let on = own_faults in omega (arith, rose, on))) in
-      ⊎_elim (λ empty. inl empty) (λ all. inr (all ∙ ap (λ t. t + TAKES_A_LINE) same_takes)) drained
+  -- what hand-overs behind it came to
+  module _ (x y : Course) (b : At D N) (hands : HandsOver g n x y (moment mid a.disk wire) b) where
+    two : (es : List Event) × AllByRecursion IsHandOver es × (y ≡ course_behind mid.registry behind x es) × (b.cluster.takes ≡ mid.takes + length es) × Goes g n mid.registry behind (moment mid a.disk wire) b es
+    two = hands start behind order_behind (acts start w order is_in)
 
-  pub follows : (es : List Event) × AreEventsOf a.cluster.registry w now line answer es × Goes g n a.cluster.registry w a c es
-      × (IsTrue (puts_first (begun_of w now line)) → Drains n a.wire c.wire a.cluster.takes c.cluster.takes)
-  follows =
-      let registry = a.cluster.registry in
-      let v = run registry own w in
-      let then_in = acts start w order is_in in
-      let order_then = run-in_order registry start (λ cell id found. wide_of registry ready.configured cell id found) own w order in
-      let two = hands start v (subst (λ r. IsInOrder r start v) (sym same) order_then) then_in in
-      let goes = subst (λ r. Goes g n r v (moment mid a.disk wire) c two.0) same two.4 in
-      let is_course = two.2 ∙ ap (λ r. course_behind r v (course_of begun (length (packets_of mid.post))) two.0) same in (
-        own ++ two.0,
-        record {
-          taken = two.0;
-          all = refl;
-          hand_over = two.1;
-          few = (let count = two.3 in omega (arith, count, few));
-          quiet = nothing_taken two.0 two.3;
-          answered = same_answer registry a.cluster mid c.cluster begun course answer now line two.0 w v is_in then_in goes.now (begins start w order is_in) refl is_course is_answer;
-        },
-        goes_on g n registry w a (moment mid a.disk wire) c own two.0 first goes,
-        drains_all,
-      )
+    goes_both : Goes g n registry w a b (own ++ two.0)
+    goes_both = goes_on g n registry w a (moment mid a.disk wire) b own two.0 first (subst (λ r. Goes g n r behind (moment mid a.disk wire) b two.0) same two.4)
+
+    -- all was done, and the line came to its end behind it
+    pub breaks_late : (c : At D N) → IsReady g b.disk b.cluster → b.cluster.registry ≡ registry → c.disk ≡ b.disk → c.cluster.trace.items ≡ b.cluster.trace.items → (es : List Event) × AreEventsOff w now line es × Breaks g registry w a c es
+    breaks_late c ready_then same_then disk trace = (own ++ two.0, inr (two.0, refl, two.1), breaks_behind_all g n registry a b c w (own ++ two.0) ready_then same_then goes_both disk trace)
+
+    module _ (begun : Begun) (answer : Answer) (begins : Begins now line a.cluster begun) (is_begun : x ≡ course_of begun (length (packets_of mid.post)))
+        (few : b.cluster.takes ≤ mid.takes + TAKES_A_LINE) (quiet : puts_first begun ≡ false → b.cluster.takes ≡ mid.takes)
+        (drains : IsTrue (puts_first begun) → Drains n wire b.wire mid.takes b.cluster.takes) (own_faults : n.faults a.wire ≤ n.faults wire) (same_takes : mid.takes ≡ a.cluster.takes)
+        (is_answer : answer ≡ comes_to begun a.cluster.trace.items b.cluster.trace.items a.cluster.notes.items b.cluster.notes.items (packets_of b.cluster.post) y) where
+      is_first : begun ≡ begun_of w now line
+      is_first = begins start w order is_in
+
+      -- what was taken is nothing where no packet was put
+      nothing_taken : puts_first (begun_of w now line) ≡ false → two.0 ≡ []
+      nothing_taken none =
+          let still = quiet (ap puts_first is_first ∙ none) in
+          let count = two.3 in
+          empty_of two.0 (omega (arith, count, still))
+
+      drains_all : IsTrue (puts_first (begun_of w now line)) → Drains n a.wire b.wire a.cluster.takes b.cluster.takes
+      drains_all puts tells still =
+          let drained = drains (ap puts_first is_first ∙ puts) tells (λ rose. still (let on = own_faults in omega (arith, rose, on))) in
+          ⊎_elim (λ empty. inl empty) (λ all. inr (all ∙ ap (λ t. t + TAKES_A_LINE) same_takes)) drained
+
+      pub follows : (es : List Event) × AreEventsOf registry w now line answer es × Goes g n registry w a b es
+          × (IsTrue (puts_first (begun_of w now line)) → Drains n a.wire b.wire a.cluster.takes b.cluster.takes)
+      follows =
+          let is_course = two.2 ∙ ap (λ r. course_behind r behind x two.0) same ∙ ap (λ q. course_behind registry behind q two.0) is_begun in
+          let goes = subst (λ r. Goes g n r behind (moment mid a.disk wire) b two.0) same two.4 in (
+            own ++ two.0,
+            record {
+              taken = two.0;
+              all = refl;
+              hand_over = two.1;
+              few = (let count = two.3 in omega (arith, count, few));
+              quiet = nothing_taken;
+              answered = same_answer registry a.cluster mid b.cluster begun y answer now line two.0 w behind is_in (acts start w order is_in) goes.now is_first refl is_course is_answer;
+            },
+            goes_both,
+            drains_all,
+          )
+
+  -- hand-overs behind it came to an end by an error
+  pub breaks_line : (c : At D N) → BreaksOff g (moment mid a.disk wire) c → (es : List Event) × AreEventsOff w now line es × Breaks g registry w a c es
+  breaks_line c off =
+      let two = off start behind order_behind (acts start w order is_in) in
+      (own ++ two.0, inr (two.0, refl, two.1), breaks_on g n registry w a (moment mid a.disk wire) c own two.0 first (subst (λ r. Breaks g r behind (moment mid a.disk wire) c two.0) same two.2))

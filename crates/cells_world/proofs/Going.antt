@@ -32,7 +32,7 @@ run_append registry [] fs w = refl
 run_append registry (e ∷ es) fs w = run_append registry es fs (happens registry w e)
 
 module _ (registry : Registry) where
-  reached_sooner : (w : World) (es fs : List Event) (img : Image) → IsReached registry w es img → IsReached registry w (es ++ fs) img
+  pub reached_sooner : (w : World) (es fs : List Event) (img : Image) → IsReached registry w es img → IsReached registry w (es ++ fs) img
   reached_sooner w es fs img is = record {
     front = is.front;
     rest = is.rest ++ fs;
@@ -40,7 +40,7 @@ module _ (registry : Registry) where
     is_of = is.is_of;
   }
 
-  reached_later : (w : World) (es fs : List Event) (img : Image) → IsReached registry (run registry es w) fs img → IsReached registry w (es ++ fs) img
+  pub reached_later : (w : World) (es fs : List Event) (img : Image) → IsReached registry (run registry es w) fs img → IsReached registry w (es ++ fs) img
   reached_later w es fs img is = record {
     front = es ++ is.front;
     rest = is.rest;
@@ -63,7 +63,7 @@ pub course_append : (registry : Registry) (es fs : List Event) (w : World) (cour
 course_append registry [] fs w course = refl
 course_append registry (e ∷ es) fs w course = course_append registry es fs (happens registry w e) (after_event (happens registry w e).sent e course)
 
-all_append : (es fs : List Event) → AllByRecursion IsHandOver es → AllByRecursion IsHandOver fs → AllByRecursion IsHandOver (es ++ fs)
+pub all_append : (es fs : List Event) → AllByRecursion IsHandOver es → AllByRecursion IsHandOver fs → AllByRecursion IsHandOver (es ++ fs)
 all_append [] fs all more = more
 all_append (e ∷ es) fs all more = (all.0, all_append es fs all.1 more)
 
@@ -136,7 +136,7 @@ pub record CountsOne (c b : Cluster) : Type 0 where
   pub notes : b.notes.items ≡ c.notes.items
   pub takes : b.takes ≡ c.takes + 1
 
-counted_in : (c b : Cluster) (w : World) (m : Option Message) → IsIn c w → CountsOne c b → IsIn b (with_handed m w)
+pub counted_in : (c b : Cluster) (w : World) (m : Option Message) → IsIn c w → CountsOne c b → IsIn b (with_handed m w)
 counted_in c b w m is_in one = record {
   service = is_in.service ∙ sym one.service;
   cells = λ a there. (let was = is_in.cells a (subst (λ as_all. Contains as_all a) one.cells there) in record { tree = was.tree; agent = was.agent });
@@ -148,7 +148,7 @@ counted_in c b w m is_in one = record {
 }
 
 -- files that stand for a world stand for it where one more packet was handed over, and the other way round
-counted_of : (registry : Registry) (img : Image) (w : World) (m : Option Message) → IsOf registry img (with_handed m w) → IsOf registry img w
+pub counted_of : (registry : Registry) (img : Image) (w : World) (m : Option Message) → IsOf registry img (with_handed m w) → IsOf registry img w
 counted_of registry img w m is = record { service = is.service; stores = is.stores }
 
 module _ {D N : Type 0} (g : Ghosts D) (n : WireGhosts N) (a : At D N) (b : Cluster) (given : WirePacket) (one : CountsOne a.cluster b) where

@@ -33,6 +33,7 @@ use Rattle.disk_journal.specs.Disk.{Image}
 use Rattle.disk_journal.specs.Entries.{HasEntries, Stands, Rests, HasTheseOr, AppendsAtMost}
 use Rattle.disk_journal.specs.Journal.{IsOwn}
 use Rattle.disk_journal.proofs.Entries.{stands_in}
+use Rattle.disk_journal.specs.Moments.{LeavesOnly}
 use Rattle.disk_journal.proofs.Moments.{OnlyNow, started, weaker}
 use Rattle.cells_base.specs.Lists.{with_entry}
 use Rattle.claim_service.specs.Node.{service, keeper}
@@ -69,17 +70,10 @@ noted_is None w = refl
 noted_is (Some (EndedDenied lease denial)) w = refl
 noted_is (Some (EndedChanged lease before now)) w = refl
 
-module _ {D N : Type 0} (g : Ghosts D) (old new : Cluster) (d e : D) (m n : N) (place : ℕ) (reply : Reply) (k now : CellAgent)
+module _ {D : Type 0} (g : Ghosts D) (old : Cluster) (d e : D) (reply : Reply) (k : CellAgent)
     (ready : IsReady g d old)
     (inside : Contains old.cells.items k) (of_cell : k.store.cell ≡ receiver reply)
-    (tree_now : (stored now.store).tree ≡ (heard_by k reply).tree) (agent_now : kept_by now ≡ (heard_by k reply).agent) (cell_now : now.store.cell ≡ k.store.cell)
     (any_moment : AppendsAtMost g (store k.store.cell) d e (store_keeper k.store) (heard_by k reply).entry)
-    (service_same : new.service ≡ old.service)
-    (puts : PutsOne old.cells.items now new.cells.items)
-    (sent : packets_of new.post ≡ packets_of old.post ++ list_map packet_of (heard_by k reply).sends)
-    (trace : new.trace.items ≡ traced_by (heard_by k reply).step old.takes old.trace.items)
-    (notes : new.notes.items ≡ noted_by (heard_by k reply).ended old.notes.items)
-    (takes : new.takes ≡ old.takes)
     (start : ClaimMap) (w : World) (order : IsInOrder old.registry start w) (is_in : IsIn old w) where
   abbrev registry : Registry
   registry = old.registry
@@ -173,37 +167,6 @@ module _ {D N : Type 0} (g : Ghosts D) (old new : Cluster) (d e : D) (m n : N) (
   store_there : (q : ℕ) → q ≢ cell → store_at then_at q ≡ store_at w q
   store_there q apart = ap (λ t. store_of t (agent_of then_at.agents q)) (tree_there q apart) ∙ ap (λ o. store_of (tree_of w.claims q) (unwrap_or o idle_agent)) (agent_there q apart)
 
-  -- this cell is where the world says, and so is each other
-  is_now : IsCellIn then_at now
-  is_now = record {
-    tree = ap (λ q. tree_of then_at.claims q) cell_now ∙ tree_here ∙ sym tree_now;
-    agent = ap (λ q. map.get then_at.agents q) cell_now ∙ agent_here ∙ ap Some (sym agent_now);
-  }
-
-  is_other : (a : CellAgent) → Contains old.cells.items a → a.store.cell ≢ now.store.cell → IsCellIn then_at a
-  is_other a there apart =
-      let was = is_in.cells a there in
-      let other : a.store.cell ≢ cell = λ same. apart (same ∙ sym cell_now) in
-      record { tree = tree_there a.store.cell other ∙ was.tree; agent = agent_there a.store.cell other ∙ was.agent }
-
-  only_now : (q : ℕ) (x : Agent) → map.get then_at.agents q ≡ Some x → (a : CellAgent) × Contains new.cells.items a × (a.store.cell ≡ q)
-  only_now q x there = go (same_or_other nat_cmp_total nat_cmp-IsAntisymmetric q cell)
-    where
-      go : ((q ≡ cell) ⊎ (q ≢ cell)) → (a : CellAgent) × Contains new.cells.items a × (a.store.cell ≡ q)
-      go (inl same) = (now, puts.put, cell_now ∙ sym same)
-      go (inr apart) = (let was = is_in.only q x (sym (agent_there q apart) ∙ there) in (was.0, puts.others was.0 was.1 (λ e. apart (sym was.2 ∙ e ∙ cell_now)), was.2))
-
-  in_then : IsIn new then_at
-  in_then = record {
-    service = then_service ∙ is_in.service ∙ ap (λ (s : TopologyNode). kept s.state) (sym service_same);
-    cells = λ a there. ⊎_elim (λ same. subst (IsCellIn then_at) (sym same) is_now) (λ other. is_other a other.0 other.1) (puts.each a there);
-    only = only_now;
-    sent = ap (λ ps. ps ++ list_map packet_of h.sends) (noted_then.sent ∙ beside.sent ∙ is_in.sent) ∙ sym sent;
-    trace = noted_then.trace ∙ steps_trace h.step base old.trace.items old.takes is_in.takes is_in.trace ∙ sym trace;
-    notes = noted_is h.ended (with_step h.step base) ∙ ap (noted_by h.ended) (beside.notes ∙ is_in.notes) ∙ sym notes;
-    takes = ap length (noted_then.handed ∙ beside.handed) ∙ is_in.takes ∙ sym takes;
-  }
-
   file_of : k.store.journal.file ≡ cell
   file_of = (ready.cells k inside).agent.store.file
 
@@ -251,12 +214,52 @@ module _ {D N : Type 0} (g : Ghosts D) (old new : Cluster) (d e : D) (m n : N) (
       behind (Some x) one has = inr (whole then_at then_service store_there
           (record { es = es ++ x ∷ []; has = subst (λ q. HasEntries (store cell) img q (es ++ x ∷ [])) file_of has; folds = turns x one ∙ ap Some (sym store_here) }))
 
-  pub heard_leads : Leads g w then_at (moment old d m) (moment new e n)
-  heard_leads = record {
-    now = in_then;
-    moments = λ tells. (let rest = (ready.cells k inside).at_rest tells in
-        weaker g d e (HasTheseOr g (store cell) d k.store.journal.file rest.0 h.entry) (IsOfEither registry w then_at) (any_moment rest.0 rest.1) (reached tells rest.0 rest.1) tells);
-  }
+  -- at each moment of the call the files stood for the world before it, or for the one after it
+  pub heard_moments : LeavesOnly g d e (IsOfEither registry w then_at)
+  heard_moments = λ tells. (let rest = (ready.cells k inside).at_rest tells in
+      weaker g d e (HasTheseOr g (store cell) d k.store.journal.file rest.0 h.entry) (IsOfEither registry w then_at) (any_moment rest.0 rest.1) (reached tells rest.0 rest.1) tells)
+
+  module _ {N : Type 0} (new : Cluster) (m n : N) (now : CellAgent)
+      (tree_now : (stored now.store).tree ≡ (heard_by k reply).tree) (agent_now : kept_by now ≡ (heard_by k reply).agent) (cell_now : now.store.cell ≡ k.store.cell)
+      (service_same : new.service ≡ old.service)
+      (puts : PutsOne old.cells.items now new.cells.items)
+      (sent : packets_of new.post ≡ packets_of old.post ++ list_map packet_of (heard_by k reply).sends)
+      (trace : new.trace.items ≡ traced_by (heard_by k reply).step old.takes old.trace.items)
+      (notes : new.notes.items ≡ noted_by (heard_by k reply).ended old.notes.items)
+      (takes : new.takes ≡ old.takes) where
+    -- this cell is where the world says, and so is each other
+    is_now : IsCellIn then_at now
+    is_now = record {
+      tree = ap (λ q. tree_of then_at.claims q) cell_now ∙ tree_here ∙ sym tree_now;
+      agent = ap (λ q. map.get then_at.agents q) cell_now ∙ agent_here ∙ ap Some (sym agent_now);
+    }
+
+    is_other : (a : CellAgent) → Contains old.cells.items a → a.store.cell ≢ now.store.cell → IsCellIn then_at a
+    is_other a there apart =
+        let was = is_in.cells a there in
+        let other : a.store.cell ≢ cell = λ same. apart (same ∙ sym cell_now) in
+        record { tree = tree_there a.store.cell other ∙ was.tree; agent = agent_there a.store.cell other ∙ was.agent }
+
+    only_now : (q : ℕ) (x : Agent) → map.get then_at.agents q ≡ Some x → (a : CellAgent) × Contains new.cells.items a × (a.store.cell ≡ q)
+    only_now q x there = go (same_or_other nat_cmp_total nat_cmp-IsAntisymmetric q cell)
+      where
+        go : ((q ≡ cell) ⊎ (q ≢ cell)) → (a : CellAgent) × Contains new.cells.items a × (a.store.cell ≡ q)
+        go (inl same) = (now, puts.put, cell_now ∙ sym same)
+        go (inr apart) = (let was = is_in.only q x (sym (agent_there q apart) ∙ there) in (was.0, puts.others was.0 was.1 (λ e. apart (sym was.2 ∙ e ∙ cell_now)), was.2))
+
+    in_then : IsIn new then_at
+    in_then = record {
+      service = then_service ∙ is_in.service ∙ ap (λ (s : TopologyNode). kept s.state) (sym service_same);
+      cells = λ a there. ⊎_elim (λ same. subst (IsCellIn then_at) (sym same) is_now) (λ other. is_other a other.0 other.1) (puts.each a there);
+      only = only_now;
+      sent = ap (λ ps. ps ++ list_map packet_of h.sends) (noted_then.sent ∙ beside.sent ∙ is_in.sent) ∙ sym sent;
+      trace = noted_then.trace ∙ steps_trace h.step base old.trace.items old.takes is_in.takes is_in.trace ∙ sym trace;
+      notes = noted_is h.ended (with_step h.step base) ∙ ap (noted_by h.ended) (beside.notes ∙ is_in.notes) ∙ sym notes;
+      takes = ap length (noted_then.handed ∙ beside.handed) ∙ is_in.takes ∙ sym takes;
+    }
+
+    pub heard_leads : Leads g w then_at (moment old d m) (moment new e n)
+    heard_leads = record { now = in_then; moments = heard_moments }
 
 -- the cell that a reply is addressed to is the one that it goes to in the world, if its number is that of a cell
 pub receiver_is : (reply : Reply) (cell : ℕ) → 1 ≤ cell → cell ≤ GREATEST_CELL → cell ≡ address_of_reply reply → cell ≡ receiver reply

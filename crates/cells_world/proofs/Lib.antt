@@ -2,6 +2,7 @@ pub mod Telling
 pub mod Served
 pub mod Heard
 pub mod Going
+pub mod Breaking
 pub mod Ready
 pub mod Places
 pub mod Asked

@@ -30,6 +30,7 @@ use Rattle.disk_journal.specs.Disk.{Image, IsImage}
 use Rattle.disk_journal.specs.Entries.{HasEntries, Stands, Rests, HasTheseOr, AppendsAtMost}
 use Rattle.disk_journal.specs.Journal.{IsOwn}
 use Rattle.disk_journal.proofs.Entries.{stands_in}
+use Rattle.disk_journal.specs.Moments.{LeavesOnly}
 use Rattle.disk_journal.proofs.Moments.{weaker}
 use Rattle.cells_base.specs.Lists.{with_entry}
 use Rattle.claim_service.specs.Node.{service, keeper}
@@ -95,16 +96,10 @@ ready_is_of g d c w ready tells is_in img is = record {
         (subst (λ q. Stands (store a.store.cell) img q (stored a.store)) (ready.cells a inside).agent.store.file
         (stands_in g (store a.store.cell) d (store_keeper a.store) tells (ready.cells a inside).at_rest img (λ q own. is q)))
 
-module _ {D N : Type 0} (g : Ghosts D) (old new : Cluster) (d e : D) (m n : N) (place : ℕ) (request : Request) (owes : Due)
+module _ {D : Type 0} (g : Ghosts D) (old : Cluster) (d e : D) (place : ℕ) (request : Request) (owes : Due)
     (ready : IsReady g d old)
     (due_is : owes ≡ owed old.registry (kept old.service.state) request)
-    (keeps : kept new.service.state ≡ kept_after (kept old.service.state) owes)
     (any_moment : AppendsAtMost g service d e (keeper old.service) (entry_of owes.step))
-    (cells : new.cells.items ≡ old.cells.items)
-    (sent : packets_of new.post ≡ packets_of old.post ++ record { message = answer owes.reply; answers = place + 1 } ∷ [])
-    (trace : new.trace.items ≡ traced_by owes.step old.takes old.trace.items)
-    (notes : new.notes.items ≡ old.notes.items)
-    (takes : new.takes ≡ old.takes)
     (start : ClaimMap) (w : World) (order : IsInOrder old.registry start w) (is_in : IsIn old w) where
   abbrev registry : Registry
   registry = old.registry
@@ -134,31 +129,6 @@ module _ {D N : Type 0} (g : Ghosts D) (old new : Cluster) (d e : D) (m n : N) (
   then_store cell =
       ap (λ (ts : map.FinMap nat_cmp Tree). store_of (unwrap_or (map.get ts cell) empty_tree) (agent_of then_at.agents cell)) then_trees
       ∙ ap (λ all. store_of (tree_of w.claims cell) (agent_of all cell)) then_agents
-
-  new_state : service_of then_at.claims ≡ kept new.service.state
-  new_state =
-      ap service_of then_claims
-      ∙ sym (same_after w.claims (due registry w.claims request).step)
-      ∙ ap (λ s. service_of (after_any (map_of s) (due registry w.claims request).step)) is_in.service
-      ∙ ap (λ (x : Due). service_of (after_any (map_of (kept old.service.state)) x.step)) (sym owed_is)
-      ∙ sym keeps
-
-  in_then : IsIn new then_at
-  in_then = record {
-    service = new_state;
-    cells = λ a there. (let was = is_in.cells a (subst (λ as_all. Contains as_all a) cells there) in record {
-      tree = ap (λ (ts : map.FinMap nat_cmp Tree). unwrap_or (map.get ts a.store.cell) empty_tree) then_trees ∙ was.tree;
-      agent = ap (λ as_all. map.get as_all a.store.cell) then_agents ∙ was.agent;
-    });
-    only = λ cell x there. (let was = is_in.only cell x (ap (λ as_all. map.get as_all cell) (sym then_agents) ∙ there) in
-        (was.0, subst (λ as_all. Contains as_all was.0) (sym cells) was.1, was.2));
-    sent = ap (λ ps. ps ++ record { message = answer (due registry w.claims request).reply; answers = place + 1 } ∷ []) (then_beside.sent ∙ is_in.sent)
-        ∙ ap (λ (x : Due). packets_of old.post ++ record { message = answer x.reply; answers = place + 1 } ∷ []) (sym owed_is)
-        ∙ sym sent;
-    trace = steps_trace (due registry w.claims request).step w old.trace.items old.takes is_in.takes is_in.trace ∙ ap (λ (x : Due). traced_by x.step old.takes old.trace.items) (sym owed_is) ∙ sym trace;
-    notes = then_beside.notes ∙ is_in.notes ∙ sym notes;
-    takes = ap length then_beside.handed ∙ is_in.takes ∙ sym takes;
-  }
 
   file : old.service.journal.file ≡ SERVICE_FILE
   file = ready.service.is.file
@@ -201,9 +171,42 @@ module _ {D N : Type 0} (g : Ghosts D) (old new : Cluster) (d e : D) (m n : N) (
           })
           then_store)
 
-  pub served_leads : Leads g w then_at (moment old d m) (moment new e n)
-  served_leads = record {
-    now = in_then;
-    moments = λ tells. (let rest = ready.service.at_rest tells in
-        weaker g d e (HasTheseOr g service d old.service.journal.file rest.0 (entry_of owes.step)) (IsOfEither registry w then_at) (any_moment rest.0 rest.1) (reached tells rest.0 rest.1) tells);
-  }
+  -- at each moment of the call the files stood for the world before it, or for the one after it
+  pub served_moments : LeavesOnly g d e (IsOfEither registry w then_at)
+  served_moments = λ tells. (let rest = ready.service.at_rest tells in
+      weaker g d e (HasTheseOr g service d old.service.journal.file rest.0 (entry_of owes.step)) (IsOfEither registry w then_at) (any_moment rest.0 rest.1) (reached tells rest.0 rest.1) tells)
+
+  module _ {N : Type 0} (new : Cluster) (m n : N)
+      (keeps : kept new.service.state ≡ kept_after (kept old.service.state) owes)
+      (cells : new.cells.items ≡ old.cells.items)
+      (sent : packets_of new.post ≡ packets_of old.post ++ record { message = answer owes.reply; answers = place + 1 } ∷ [])
+      (trace : new.trace.items ≡ traced_by owes.step old.takes old.trace.items)
+      (notes : new.notes.items ≡ old.notes.items)
+      (takes : new.takes ≡ old.takes) where
+    new_state : service_of then_at.claims ≡ kept new.service.state
+    new_state =
+        ap service_of then_claims
+        ∙ sym (same_after w.claims (due registry w.claims request).step)
+        ∙ ap (λ s. service_of (after_any (map_of s) (due registry w.claims request).step)) is_in.service
+        ∙ ap (λ (x : Due). service_of (after_any (map_of (kept old.service.state)) x.step)) (sym owed_is)
+        ∙ sym keeps
+
+    in_then : IsIn new then_at
+    in_then = record {
+      service = new_state;
+      cells = λ a there. (let was = is_in.cells a (subst (λ as_all. Contains as_all a) cells there) in record {
+        tree = ap (λ (ts : map.FinMap nat_cmp Tree). unwrap_or (map.get ts a.store.cell) empty_tree) then_trees ∙ was.tree;
+        agent = ap (λ as_all. map.get as_all a.store.cell) then_agents ∙ was.agent;
+      });
+      only = λ cell x there. (let was = is_in.only cell x (ap (λ as_all. map.get as_all cell) (sym then_agents) ∙ there) in
+          (was.0, subst (λ as_all. Contains as_all was.0) (sym cells) was.1, was.2));
+      sent = ap (λ ps. ps ++ record { message = answer (due registry w.claims request).reply; answers = place + 1 } ∷ []) (then_beside.sent ∙ is_in.sent)
+          ∙ ap (λ (x : Due). packets_of old.post ++ record { message = answer x.reply; answers = place + 1 } ∷ []) (sym owed_is)
+          ∙ sym sent;
+      trace = steps_trace (due registry w.claims request).step w old.trace.items old.takes is_in.takes is_in.trace ∙ ap (λ (x : Due). traced_by x.step old.takes old.trace.items) (sym owed_is) ∙ sym trace;
+      notes = then_beside.notes ∙ is_in.notes ∙ sym notes;
+      takes = ap length then_beside.handed ∙ is_in.takes ∙ sym takes;
+    }
+
+    pub served_leads : Leads g w then_at (moment old d m) (moment new e n)
+    served_leads = record { now = in_then; moments = served_moments }

@@ -13,7 +13,7 @@ use Rattle.cells_script.specs.declared.answer.Answer.{Answer}
 use Rattle.cells_script.specs.declared.line.Line.{Line}
 use Rattle.cells_world.specs.Answers.{answer_of, begun_of, puts_first}
 use Rattle.cells_world.specs.Lines.{moment_of, own_events}
-use Rattle.cells_world.specs.World.{At, Goes, IsHandOver, IsIn}
+use Rattle.cells_world.specs.World.{At, Breaks, Goes, IsHandOver, IsIn}
 use Rattle.cells_world.specs.declared.limits.TheConstants.{TAKES_A_LINE}
 
 -- where the wire's count stood still, no packet is on its way
@@ -40,3 +40,13 @@ Follows g n now line answer old new =
     (start : ClaimMap) (w : World) → IsInOrder old.cluster.registry start w → IsIn old.cluster w →
     (es : List Event) × AreEventsOf old.cluster.registry w (moment_of old.cluster now) line answer es × Goes g n old.cluster.registry w old new es
     × (IsTrue (puts_first (begun_of w (moment_of old.cluster now) line)) → Drains n old.wire new.wire old.cluster.takes new.cluster.takes)
+
+-- the events of a line that came to an end by an error: none, or its own and then packets that are handed over
+abbrev pub AreEventsOff : World → ℕ → Line → List Event → Type 0
+AreEventsOff w now line es = (es ≡ []) ⊎ ((taken : List Event) × (es ≡ own_events w now line ++ taken) × AllByRecursion IsHandOver taken)
+
+-- What such a line leaves, from any world in order that the cluster was in.
+abbrev pub BreaksLine : {D N : Type 0} → Ghosts D → ℕ → Line → At D N → At D N → Type 0
+BreaksLine g now line old new =
+    (start : ClaimMap) (w : World) → IsInOrder old.cluster.registry start w → IsIn old.cluster w →
+    (es : List Event) × AreEventsOff w (moment_of old.cluster now) line es × Breaks g old.cluster.registry w old new es

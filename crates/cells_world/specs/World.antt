@@ -1,9 +1,9 @@
 -- The cluster in a world: the installation as the protocol's laws see it, and what goes from one moment to another.
-use Rattle.std.specs.Prelude.{◌≡◌, ◌≢◌, ◌⊎◌, ℕ, ◌+◌, IsTrue, IsSome, List, [], ◌∷◌, ◌++◌, length, Some}
+use Rattle.std.specs.Prelude.{◌≡◌, ◌≢◌, ◌⊎◌, ℕ, ◌+◌, ◌≤◌, IsTrue, IsSome, List, [], ◌∷◌, ◌++◌, length, Some}
 use Rattle.std.specs.List.{Contains, slice_get, AllByRecursion}
 use Rattle.std.specs.FinMap as map
 use Rattle.disk_journal.specs.declared.disk.Disk.{Ghosts}
-use Rattle.disk_journal.specs.Disk.{Image}
+use Rattle.disk_journal.specs.Disk.{Image, IsImage}
 use Rattle.disk_journal.specs.Moments.{LeavesOnly}
 use Rattle.disk_journal.specs.Entries.{Stands}
 use Rattle.cells_edge.specs.declared.wire.Packet.{Packet as WirePacket}
@@ -90,6 +90,16 @@ HandsAt g place old new =
     (p : Packet) → slice_get (packets_of old.cluster.post) place ≡ Some p → (start : ClaimMap) (w : World) → IsInOrder old.cluster.registry start w → IsIn old.cluster w →
     Leads g w (after_message old.cluster.registry (place + 1) p.message w) old new
 
+-- That call came to an end by an error: no step is told of it, and at each moment the files stood for the world before it or after it.
+pub record BreaksThere {D N : Type 0} (g : Ghosts D) (w v : World) (old new : At D N) : Type 0 where
+  pub trace : new.cluster.trace.items ≡ old.cluster.trace.items
+  pub moments : LeavesOnly g old.disk new.disk (IsOfEither old.cluster.registry w v)
+
+abbrev pub BreaksAt : {D N : Type 0} → Ghosts D → ℕ → At D N → At D N → Type 0
+BreaksAt g place old new =
+    (p : Packet) → slice_get (packets_of old.cluster.post) place ≡ Some p → (start : ClaimMap) (w : World) → IsInOrder old.cluster.registry start w → IsIn old.cluster w →
+    BreaksThere g w (after_message old.cluster.registry (place + 1) p.message w) old new
+
 -- What goes from one moment to another: these events, whatever the disk and the wire do.
 pub record Goes {D N : Type 0} (g : Ghosts D) (n : WireGhosts N) (registry : Registry) (w : World) (old new : At D N) (es : List Event) : Type 0 where
   pub now : IsIn new.cluster (run registry es w)
@@ -108,3 +118,20 @@ abbrev pub HandsOver : {D N : Type 0} → Ghosts D → WireGhosts N → Course �
 HandsOver g n before after old new =
     (start : ClaimMap) (w : World) → IsInOrder old.cluster.registry start w → IsIn old.cluster w →
     (es : List Event) × AllByRecursion IsHandOver es × (after ≡ course_behind old.cluster.registry w before es) × (new.cluster.takes ≡ old.cluster.takes + length es) × Goes g n old.cluster.registry w old new es
+
+-- What events leave that came to an end by an error: the steps that are told are those of some first ones, all but the last at most; at each
+-- moment the files stood for a world that first events lead to, and at the end for the world behind those that are told, or behind one more.
+pub record Breaks {D N : Type 0} (g : Ghosts D) (registry : Registry) (w : World) (old new : At D N) (es : List Event) : Type 0 where
+  pub told : List Event
+  pub more : List Event
+  pub cut : told ++ more ≡ es
+  pub few : length more ≤ 1
+  pub trace : (run registry told w).trace ≡ new.cluster.trace.items
+  pub moments : LeavesOnly g old.disk new.disk (IsReached registry w es)
+  pub stands : IsTrue g.tells → (img : Image) → IsImage (g.may_leave new.disk) img → IsOfEither registry (run registry told w) (run registry es w) img
+
+-- hand-overs came to such an end, from any world in order that the cluster is in
+abbrev pub BreaksOff : {D N : Type 0} → Ghosts D → At D N → At D N → Type 0
+BreaksOff g old new =
+    (start : ClaimMap) (w : World) → IsInOrder old.cluster.registry start w → IsIn old.cluster w →
+    (es : List Event) × AllByRecursion IsHandOver es × Breaks g old.cluster.registry w old new es

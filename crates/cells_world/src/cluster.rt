@@ -8,7 +8,7 @@ ghost use Rattle.cells_world.specs.Post.{packets_of, ArePackets, Sends, SendsSom
 ghost use Rattle.claim_service.specs.State.{kept};
 ghost use Rattle.std.specs.FinMap as map;
 ghost use Rattle.cells_world.specs.Answers.{Begins, begun_on_wire, begun_repeat};
-ghost use Rattle.cells_world.specs.Follows.{Drains, Follows, IsDrained};
+ghost use Rattle.cells_world.specs.Follows.{BreaksLine, Drains, Follows, IsDrained};
 ghost use Rattle.cells_world.specs.Lines.{Acts, IsBuilt, cell_of_change, moment_of, waited_by};
 ghost use Rattle.cells_world.specs.Puts.{PutsFor};
 ghost use Rattle.cells_script.specs.declared.line.Line.TheVariants.{Range as LineRange, Reconcile, Repeat};
@@ -21,7 +21,7 @@ ghost use Rattle.cells_world.specs.Ending.{GoesOn, NotesMore};
 ghost use Rattle.cells_world.specs.Opening.{FailsTwice, IsNew, IsOpenEnd, Opens, StandsStill};
 ghost use Rattle.cells_world.specs.declared.limits.TheConstants.{MOST_TAKES, TAKES_A_LINE};
 ghost use Rattle.cells_world.specs.Cluster.{IsReady, IsPlaceOf, Lacks, noted_by, traced_by, IsEndOf, IsSameBeside, IsSameButWire, IsSameCluster, SendsOnly};
-ghost use Rattle.cells_world.specs.World.{at as moment, HandsAt, HandsOver};
+ghost use Rattle.cells_world.specs.World.{at as moment, BreaksAt, BreaksOff, HandsAt, HandsOver};
 
 use crate::answer::{Begun, is_tag, is_zero, refused};
 use crate::course::Course;
@@ -149,6 +149,8 @@ impl Cluster {
         requires place { at < length self.old.post.sent.items }
         ensures hands { OnOk result
             (HandsAt D.Disk at (moment self.old disk.old wire.old) (moment self.new disk.new wire.new)) }
+        ensures breaks { OnErr result
+            (BreaksAt D.Disk at (moment self.old disk.old wire.old) (moment self.new disk.new wire.new)) }
         ensures sends { OnOk result (SendsSome N.Wire wire.old wire.new self.old.post self.new.post) }
         ensures ready { OnOk result (IsReady D.Disk disk.new self.new) }
         ensures end { IsEndOf D.Disk disk.old disk.new result }
@@ -162,9 +164,9 @@ impl Cluster {
         match self.post.sent()[at].message() {
             Message::Ask(request) => {
                 let served = serve(alloc, disk, &mut self.service, &self.registry, request)?;
-                trace(&mut self.trace, self.takes, served.step);
                 self.post
                     .send(alloc, wire, Message::Answer(served.reply), at as u64 + 1)?;
+                trace(&mut self.trace, self.takes, served.step);
                 Ok(())
             }
             Message::Answer(reply) => {
@@ -172,10 +174,10 @@ impl Cluster {
                     return Ok(());
                 };
                 let told = hear(alloc, disk, &mut self.cells[place], reply, now)?;
-                trace(&mut self.trace, self.takes, told.step);
-                note(&mut self.notes, &told.ended);
                 self.post
                     .send_requests(alloc, wire, told.to_send.into_vec())?;
+                trace(&mut self.trace, self.takes, told.step);
+                note(&mut self.notes, &told.ended);
                 Ok(())
             }
         }
@@ -195,6 +197,8 @@ impl Cluster {
         ensures hands { OnOk result
             (HandsOver D.Disk N.Wire course.old course.new
             (moment self.old disk.old wire.old) (moment self.new disk.new wire.new)) }
+        ensures breaks { OnErr result
+            (BreaksOff D.Disk (moment self.old disk.old wire.old) (moment self.new disk.new wire.new)) }
         ensures sends { OnOk result (SendsSome N.Wire wire.old wire.new self.old.post self.new.post) }
         ensures ready { OnOk result (IsReady D.Disk disk.new self.new) }
         ensures end { IsEndOf D.Disk disk.old disk.new result }
@@ -237,6 +241,8 @@ impl Cluster {
         ensures hands { OnOk result
             (HandsOver D.Disk N.Wire course.old course.new
             (moment self.old disk.old wire.old) (moment self.new disk.new wire.new)) }
+        ensures breaks { OnErr result
+            (BreaksOff D.Disk (moment self.old disk.old wire.old) (moment self.new disk.new wire.new)) }
         ensures sends { OnOk result (SendsSome N.Wire wire.old wire.new self.old.post self.new.post) }
         ensures ready { OnOk result (IsReady D.Disk disk.new self.new) }
         ensures end { IsEndOf D.Disk disk.old disk.new result }
@@ -272,6 +278,8 @@ impl Cluster {
             (moment self.old disk.old wire.old) (moment self.new disk.new wire.new)) }
         ensures quiet { puts ≡ false → self.new.takes ≡ self.old.takes }
         ensures drains { OnOk result (IsTrue puts → Drains N.Wire wire.old wire.new self.old.takes self.new.takes) }
+        ensures breaks { OnErr result
+            (BreaksOff D.Disk (moment self.old disk.old wire.old) (moment self.new disk.new wire.new)) }
         ensures sends { OnOk result (SendsSome N.Wire wire.old wire.new self.old.post self.new.post) }
         ensures ready { OnOk result (IsReady D.Disk disk.new self.new) }
         ensures end { IsEndOf D.Disk disk.old disk.new result }
@@ -571,7 +579,8 @@ impl Cluster {
     /// take. The answer is the one that these events bring.
     ///
     /// Errors: [`ClusterError::DiskFailed`] where calls of the disk on this file failed; [`ClusterError::Memory`]. The cluster
-    /// is not used again then; its trace and its notes stand.
+    /// is not used again then; its trace is that of some first events of the line, and the files stand for the world behind
+    /// these, or behind one more.
     pub fn line<D: Disk, N: Wire>(
         &mut self,
         alloc: Global,
@@ -584,6 +593,8 @@ impl Cluster {
         requires takes { self.old.takes < MOST_TAKES }
         requires built { IsBuilt line.now }
         ensures follows { IfOk result (λ answer. Follows D.Disk N.Wire now line.now answer
+            (moment self.old disk.old wire.old) (moment self.new disk.new wire.new)) }
+        ensures breaks { OnErr result (BreaksLine D.Disk now line.now
             (moment self.old disk.old wire.old) (moment self.new disk.new wire.new)) }
         ensures puts { OnOk result (PutsFor N.Wire line.now wire.old wire.new self.old.post self.new.post) }
         ensures ready { OnOk result (IsReady D.Disk disk.new self.new) }

@@ -1,16 +1,18 @@
-use Rattle.std.proofs.Common.{◌≡◌, ◌<◌, ℕ, List, refl, sym, ◌∙◌, ap, subst, Some, None, length, get_or, ◌+◌, ◌++◌, ◌∷◌, [], arith}
+use Rattle.std.proofs.Common.{inl, ◌≡◌, ◌<◌, ℕ, List, refl, sym, ◌∙◌, ap, subst, Some, None, length, get_or, ◌+◌, ◌++◌, ◌∷◌, [], arith}
 use Rattle.std.specs.Prelude.{map as list_map}
 use Rattle.std.specs.List.{Contains, slice_get}
 use Rattle.std.specs.Vec.{with_item}
 use Rattle.std.proofs.lemmas.Option.{slice_get_read, slice_get_within}
 use Rattle.cells_base.proofs.Members.{at_place}
+use Rattle.disk_journal.specs.declared.disk.Disk.{Ghosts}
+use Rattle.disk_journal.proofs.Moments.{started}
 use Rattle.claim_types.specs.MessageBounds.{IsReply}
-use Rattle.claim_map.specs.Legal.{ask, answer}
+use Rattle.claim_map.specs.Legal.{Message as Said, ask, answer}
 use Rattle.claim_map.proofs.Bounded.{due_bounds}
 use Rattle.claim_laws.specs.Acts.{packet_of, after_message}
 use Rattle.claim_laws.specs.Bounded.{IsMessage}
 use Rattle.claim_laws.specs.Files.{map_of}
-use Rattle.claim_laws.specs.World.{Packet}
+use Rattle.claim_laws.specs.World.{Packet, World}
 use Rattle.claim_service.specs.State.{kept, owed}
 use Rattle.cell_store.specs.Store.{stored}
 use Rattle.reconciler.specs.Agent.{kept_by}
@@ -18,19 +20,20 @@ use Rattle.reconciler.specs.declared.agent.CellAgent.{CellAgent}
 use Rattle.cells_world.specs.Cluster.{traced_by, noted_by}
 use Rattle.cells_world.specs.Packets.{message_of}
 use Rattle.cells_world.specs.Post.{packet_of as sent_packet, packets_of, ArePackets, AreRequests}
-use Rattle.cells_world.specs.World.{at as moment, Leads}
+use Rattle.cells_world.specs.World.{At, at as moment, BreaksThere, Leads}
 use Rattle.cells_world.specs.declared.cluster.Cluster.{Cluster}
 use Rattle.cells_world.specs.declared.message.Message.{Message}
 use Rattle.cells_world.specs.declared.message.Message.TheVariants.{Ask as AsAsk, Answer as AsAnswer}
 use Rattle.cells_world.specs.declared.post.Post.{Post}
 use Rattle.cells_world.specs.declared.post.Sent.{Sent}
+use Rattle.cells_world.proofs.Breaking.{on_err}
 use Rattle.cells_world.proofs.Asked.{sends_bounds}
 use Rattle.cells_world.proofs.Growing.{grows_by, grows_none}
-use Rattle.cells_world.proofs.Heard.{heard_leads, nobody_leads, receiver_is, reply_comes}
+use Rattle.cells_world.proofs.Heard.{heard_leads, heard_moments, nobody_leads, receiver_is, reply_comes}
 use Rattle.cells_world.proofs.Places.{puts_set, agents_set, same_some}
 use Rattle.cells_world.proofs.Posted.{mapped}
 use Rattle.cells_world.proofs.Ready.{ready_served, ready_heard}
-use Rattle.cells_world.proofs.Served.{served_leads}
+use Rattle.cells_world.proofs.Served.{ready_is_of, served_leads, served_moments}
 use Rattle.cells_world.proofs.cluster.Cluster.hand.Goals as goal
 
 -- the packet of the place is the one that is handed over
@@ -129,11 +132,11 @@ returns-in_ok-send-in-Ask-clause-hands g c = λ p at_p start w order is_in. (
     let due = owed old.registry (kept old.service.state) request in
     let message_is : p.message ≡ ask request = carries old.post c.args.at c.index-sent-at.result c.requires.place (c.index-sent-at.is ∙ ap (λ xs. get_or xs c.args.at c.index-sent-at.result) c.sent.ensures) p at_p (AsAsk request) (sym c.message.ensures ∙ c.in-Ask.is) in
     subst (λ m. Leads g.D.Disk w (after_message old.registry (c.args.at + 1) m w) (moment old c.args.disk.now c.args.wire.now) (moment new c.serve.new.disk c.send.new.wire)) (sym message_is)
-    (served_leads g.D.Disk old new c.args.disk.now c.serve.new.disk c.args.wire.now c.send.new.wire c.args.at request due c.requires.ready refl
-    c.in_ok-served-in-Ask.ensures.keeps c.serve.ensures.any_moment refl
+    (served_leads g.D.Disk old c.args.disk.now c.serve.new.disk c.args.at request due c.requires.ready refl c.serve.ensures.any_moment start w order is_in
+    new c.args.wire.now c.send.new.wire c.in_ok-served-in-Ask.ensures.keeps refl
     (c.in_ok-send-in-Ask.ensures.sends.sent ∙ ap (λ r. packets_of old.post ++ record { message = answer r; answers = c.args.at + 1 } ∷ []) c.in_ok-served-in-Ask.ensures.reply)
     (c.trace.ensures ∙ ap (λ t. traced_by c.in_ok-served-in-Ask.served.step old.takes t) c.reserve.ensures.items ∙ ap (λ st. traced_by st old.takes old.trace.items) c.in_ok-served-in-Ask.ensures.step)
-    c.reserve-2.ensures.items refl start w order is_in))
+    c.reserve-2.ensures.items refl))
 
 pub returns-in_ok-send-in-Ask-clause-ready : goal.returns-in_ok-send-in-Ask-clause-ready
 returns-in_ok-send-in-Ask-clause-ready g c =
@@ -174,13 +177,13 @@ returns-in_ok-send_requests-in-Answer-clause-hands g c = λ p at_p start w order
     let message_is : p.message ≡ answer reply = carries old.post c.args.at c.index-sent-at.result c.requires.place (c.index-sent-at.is ∙ ap (λ xs. get_or xs c.args.at c.index-sent-at.result) c.sent.ensures) p at_p (AsAnswer reply) (sym c.message.ensures ∙ c.in-Answer.is) in
     let comes = ap (λ m. after_message old.registry (c.args.at + 1) m w) message_is ∙ reply_comes old w k reply (is_in.cells k inside) of_cell in
     subst (λ v. Leads g.D.Disk w v (moment old c.args.disk.now c.args.wire.now) (moment new c.hear.new.disk c.send_requests.new.wire)) (sym comes)
-    (heard_leads g.D.Disk old new c.args.disk.now c.hear.new.disk c.args.wire.now c.send_requests.new.wire c.args.at reply k c.hear.new.agent
-    c.requires.ready inside of_cell told.tree told.agent c.hear.ensures.same.store.cell c.hear.ensures.any_moment refl
+    (heard_leads g.D.Disk old c.args.disk.now c.hear.new.disk reply k c.requires.ready inside of_cell c.hear.ensures.any_moment start w order is_in
+    new c.args.wire.now c.send_requests.new.wire c.hear.new.agent told.tree told.agent c.hear.ensures.same.store.cell refl
     (puts_set old.registry old.cells.items c.in-Some.place k c.hear.new.agent c.requires.ready.agents there c.hear.ensures.same.store.cell)
     (c.in_ok-send_requests-in-Answer.ensures.sends.sent ∙ ap (λ rs. packets_of old.post ++ list_map packet_of rs) (c.into_vec.ensures ∙ told.sends))
     (c.trace-in-Answer.ensures ∙ ap (λ t. traced_by c.in_ok-told-in-Answer.told.step old.takes t) c.reserve.ensures.items ∙ ap (λ st. traced_by st old.takes old.trace.items) told.step)
     (c.note.ensures ∙ ap (λ t. noted_by c.in_ok-told-in-Answer.told.ended t) c.reserve-2.ensures.items ∙ ap (λ en. noted_by en old.notes.items) told.ended)
-    refl start w order is_in))
+    refl))
 
 pub returns-in_ok-send_requests-in-Answer-clause-ready : goal.returns-in_ok-send_requests-in-Answer-clause-ready
 returns-in_ok-send_requests-in-Answer-clause-ready g c =
@@ -251,3 +254,87 @@ returns-in_ok-send_requests-in-Answer-clause-grows g c = grows_by c.args.self.no
     c.in_ok-told-in-Answer.told.step c.in_ok-told-in-Answer.told.ended
     (c.trace-in-Answer.ensures ∙ ap (λ t. traced_by c.in_ok-told-in-Answer.told.step c.args.self.now.takes t) c.reserve.ensures.items)
     (c.note.ensures ∙ ap (λ t. noted_by c.in_ok-told-in-Answer.told.ended t) c.reserve-2.ensures.items)
+
+-- the packet that is handed over is a request, or a reply to this cell
+module _ {D N : Type 0} (g : Ghosts D) (w : World) (old new : At D N) (tag : ℕ) where
+  by_message : (m n : Said) → m ≡ n → BreaksThere g w (after_message old.cluster.registry tag n w) old new → BreaksThere g w (after_message old.cluster.registry tag m w) old new
+  by_message m n is = subst (λ x. BreaksThere g w (after_message old.cluster.registry tag x w) old new) (sym is)
+
+-- the same by another name of the world behind
+breaks_by : {D N : Type 0} (g : Ghosts D) (w : World) (old new : At D N) {v u : World} → v ≡ u → BreaksThere g w v old new → BreaksThere g w u old new
+breaks_by g w old new is = subst (λ x. BreaksThere g w x old new) is
+
+-- before a node was called nothing has happened
+pub returns-in_err-reserve-clause-breaks : goal.returns-in_err-reserve-clause-breaks
+returns-in_err-reserve-clause-breaks g c =
+    on_err c.from_residual.result (λ p at_p start w order is_in. record {
+  trace = c.reserve.ensures.items;
+  moments = λ tells. started g.D.Disk c.args.disk.now _ g.met.D.Disk.only_now (λ img is. inl (ready_is_of g.D.Disk c.args.disk.now c.args.self.now w c.requires.ready tells is_in img is));
+})
+
+pub returns-in_err-reserve-2-clause-breaks : goal.returns-in_err-reserve-2-clause-breaks
+returns-in_err-reserve-2-clause-breaks g c =
+    on_err c.from_residual-in_err-reserve-2.result (λ p at_p start w order is_in. record {
+  trace = c.reserve.ensures.items;
+  moments = λ tells. started g.D.Disk c.args.disk.now _ g.met.D.Disk.only_now (λ img is. inl (ready_is_of g.D.Disk c.args.disk.now c.args.self.now w c.requires.ready tells is_in img is));
+})
+
+-- the service failed, or there was no room for its reply
+pub returns-in_err-served-in-Ask-clause-breaks : goal.returns-in_err-served-in-Ask-clause-breaks
+returns-in_err-served-in-Ask-clause-breaks g c =
+    on_err c.from_residual-in_err-served-in-Ask.result (λ p at_p start w order is_in. (
+    let request = c.in-Ask.request in
+    let message_is = carries c.args.self.now.post c.args.at c.index-sent-at.result c.requires.place (c.index-sent-at.is ∙ ap (λ xs. get_or xs c.args.at c.index-sent-at.result) c.sent.ensures) p at_p (AsAsk request) (sym c.message.ensures ∙ c.in-Ask.is) in
+    by_message g.D.Disk w _ _ (c.args.at + 1) p.message (ask request) message_is (record {
+      trace = c.reserve.ensures.items;
+      moments = served_moments g.D.Disk c.args.self.now c.args.disk.now c.serve.new.disk c.args.at request (owed c.args.self.now.registry (kept c.args.self.now.service.state) request) c.requires.ready refl c.serve.ensures.any_moment start w order is_in;
+    })))
+
+pub returns-in_err-send-in-Ask-clause-breaks : goal.returns-in_err-send-in-Ask-clause-breaks
+returns-in_err-send-in-Ask-clause-breaks g c =
+    on_err c.from_residual-in_err-send-in-Ask.result (λ p at_p start w order is_in. (
+    let request = c.in-Ask.request in
+    let message_is = carries c.args.self.now.post c.args.at c.index-sent-at.result c.requires.place (c.index-sent-at.is ∙ ap (λ xs. get_or xs c.args.at c.index-sent-at.result) c.sent.ensures) p at_p (AsAsk request) (sym c.message.ensures ∙ c.in-Ask.is) in
+    by_message g.D.Disk w _ _ (c.args.at + 1) p.message (ask request) message_is (record {
+      trace = c.reserve.ensures.items;
+      moments = served_moments g.D.Disk c.args.self.now c.args.disk.now c.serve.new.disk c.args.at request (owed c.args.self.now.registry (kept c.args.self.now.service.state) request) c.requires.ready refl c.serve.ensures.any_moment start w order is_in;
+    })))
+
+-- the cell failed, or there was no room for what it sends
+pub returns-in_err-told-in-Answer-clause-breaks : goal.returns-in_err-told-in-Answer-clause-breaks
+returns-in_err-told-in-Answer-clause-breaks g c =
+    on_err c.from_residual-in_err-told-in-Answer.result (λ p at_p start w order is_in. (
+    let old : Cluster = c.args.self.now in
+    let reply = c.in-Answer.reply in
+    let k : CellAgent = c.index_mut.result.now in
+    let found = c.in-Some.ensures.found in
+    let here : slice_get old.cells.items c.in-Some.place ≡ Some found.0 = ap (λ xs. slice_get xs c.in-Some.place) (sym c.as_slice.ensures.value) ∙ found.1 in
+    let there = agent_here old.cells.items c.in-Some.place k found.0 here c.index_mut.ensures.value in
+    let inside = at_place old.cells.items c.in-Some.place k there in
+    let in_bounds = (c.requires.ready.cells k inside).agent.store.cell in
+    let of_cell = receiver_is reply k.store.cell in_bounds.0 in_bounds.1 (same_cell old.cells.items c.in-Some.place k found.0 here c.index_mut.ensures.value ∙ found.2 ∙ c.receiver_of.ensures) in
+    let message_is : p.message ≡ answer reply = carries old.post c.args.at c.index-sent-at.result c.requires.place (c.index-sent-at.is ∙ ap (λ xs. get_or xs c.args.at c.index-sent-at.result) c.sent.ensures) p at_p (AsAnswer reply) (sym c.message.ensures ∙ c.in-Answer.is) in
+    let comes = ap (λ m. after_message old.registry (c.args.at + 1) m w) message_is ∙ reply_comes old w k reply (is_in.cells k inside) of_cell in
+    breaks_by g.D.Disk w _ _ (sym comes) (record {
+      trace = c.reserve.ensures.items;
+      moments = heard_moments g.D.Disk old c.args.disk.now c.hear.new.disk reply k c.requires.ready inside of_cell c.hear.ensures.any_moment start w order is_in;
+    })))
+
+pub returns-in_err-send_requests-in-Answer-clause-breaks : goal.returns-in_err-send_requests-in-Answer-clause-breaks
+returns-in_err-send_requests-in-Answer-clause-breaks g c =
+    on_err c.from_residual-in_err-send_requests-in-Answer.result (λ p at_p start w order is_in. (
+    let old : Cluster = c.args.self.now in
+    let reply = c.in-Answer.reply in
+    let k : CellAgent = c.index_mut.result.now in
+    let found = c.in-Some.ensures.found in
+    let here : slice_get old.cells.items c.in-Some.place ≡ Some found.0 = ap (λ xs. slice_get xs c.in-Some.place) (sym c.as_slice.ensures.value) ∙ found.1 in
+    let there = agent_here old.cells.items c.in-Some.place k found.0 here c.index_mut.ensures.value in
+    let inside = at_place old.cells.items c.in-Some.place k there in
+    let in_bounds = (c.requires.ready.cells k inside).agent.store.cell in
+    let of_cell = receiver_is reply k.store.cell in_bounds.0 in_bounds.1 (same_cell old.cells.items c.in-Some.place k found.0 here c.index_mut.ensures.value ∙ found.2 ∙ c.receiver_of.ensures) in
+    let message_is : p.message ≡ answer reply = carries old.post c.args.at c.index-sent-at.result c.requires.place (c.index-sent-at.is ∙ ap (λ xs. get_or xs c.args.at c.index-sent-at.result) c.sent.ensures) p at_p (AsAnswer reply) (sym c.message.ensures ∙ c.in-Answer.is) in
+    let comes = ap (λ m. after_message old.registry (c.args.at + 1) m w) message_is ∙ reply_comes old w k reply (is_in.cells k inside) of_cell in
+    breaks_by g.D.Disk w _ _ (sym comes) (record {
+      trace = c.reserve.ensures.items;
+      moments = heard_moments g.D.Disk old c.args.disk.now c.hear.new.disk reply k c.requires.ready inside of_cell c.hear.ensures.any_moment start w order is_in;
+    })))

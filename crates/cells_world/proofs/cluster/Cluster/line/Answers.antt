@@ -1,4 +1,4 @@
-use Rattle.std.proofs.Common.{◌≡◌, ℕ, List, drop, length, IsTrue, refl, sym, ◌∙◌, ap, subst, arith}
+use Rattle.std.proofs.Common.{◌≡◌, inl, ℕ, List, [], drop, length, IsTrue, refl, sym, ◌∙◌, ap, subst, arith}
 use Rattle.std.specs.Prelude.{option_copied, vec_len}
 use Rattle.claim_types.specs.declared.rule.Note.{Note}
 use Rattle.claim_types.specs.declared.step.Transition.{Transition}
@@ -6,12 +6,13 @@ use Rattle.claim_laws.specs.Events.{Event}
 use Rattle.cells_script.specs.declared.answer.Answer.{Answer}
 use Rattle.cells_world.specs.Answers.{answer_by, begun_of, course_of, puts_first}
 use Rattle.cells_world.specs.Course.{reply_of}
-use Rattle.cells_world.specs.Follows.{AreEventsOf, Drains}
+use Rattle.cells_world.specs.Follows.{AreEventsOf, AreEventsOff, Drains}
 use Rattle.cells_world.specs.Post.{packet_of, packets_of}
-use Rattle.cells_world.specs.World.{Goes, HandsOver, at as moment}
+use Rattle.cells_world.specs.World.{Breaks, Goes, at as moment}
 use Rattle.cells_world.specs.declared.cluster.Cluster.{Cluster}
 use Rattle.cells_world.proofs.Growing.{grows_noted, grows_on}
-use Rattle.cells_world.proofs.Following.{comes_to, follows}
+use Rattle.cells_world.proofs.Breaking.{breaks_nothing, on_err}
+use Rattle.cells_world.proofs.Following.{breaks_late, breaks_line, comes_to, follows}
 use Rattle.cells_world.proofs.Posted.{map_length}
 use Rattle.cells_world.proofs.Putting.{puts_on}
 use Rattle.cells_world.proofs.cluster.Cluster.line.Goals as goal
@@ -39,11 +40,11 @@ returns-clause-follows g c = λ start w order is_in. (
     ∙ ap (answer_by begun (drop (length old.trace.items) new.trace.items) (drop (length old.notes.items) new.notes.items)) c.reply.ensures in
     subst (λ m. (es : List Event) × AreEventsOf old.registry w m c.args.line.now answer es × Goes g.D.Disk g.N.Wire old.registry w before after es
     × (IsTrue (puts_first (begun_of w m c.args.line.now)) → Drains g.N.Wire c.args.wire.now c.take_behind.new.wire old.takes new.takes)) c.moment-now.ensures
-    (follows g.D.Disk g.N.Wire before after mid c.begin.new.wire c.moment-now.result c.args.line.now begun c.take_behind.new.course answer
-    g.met.D.Disk.only_now c.requires.ready c.begin.ensures.same.registry c.in_ok-begun.ensures.acts c.in_ok-begun.ensures.begun c.begin.ensures.handed
-    (subst (λ q. HandsOver g.D.Disk g.N.Wire q c.take_behind.new.course (moment mid c.args.disk.now c.begin.new.wire) after) course c.in_ok-take_behind.ensures.hands)
+    (follows g.D.Disk g.N.Wire before mid c.begin.new.wire c.moment-now.result c.args.line.now g.met.D.Disk.only_now c.requires.ready c.begin.ensures.same.registry
+    c.in_ok-begun.ensures.acts c.begin.ensures.handed start w order is_in c.course-course.result c.take_behind.new.course after c.in_ok-take_behind.ensures.hands
+    begun answer c.in_ok-begun.ensures.begun course
     c.take_behind.ensures.takes (λ none. c.take_behind.ensures.quiet (c.puts.ensures ∙ none)) (λ puts. c.in_ok-take_behind.ensures.drains (c.puts.ensures ∙ puts)) c.begin.ensures.later c.begin.ensures.same.takes
-    is_answer start w order is_in))
+    is_answer))
 
 -- the notes of its own event, and then what packets brought about
 pub returns-clause-grows : goal.returns-clause-grows
@@ -53,3 +54,32 @@ returns-clause-grows g c =
 -- what its own event puts, and then what packets bring about
 pub returns-clause-puts : goal.returns-clause-puts
 returns-clause-puts g c = puts_on g.N.Wire c.args.line.now c.args.wire.now c.begin.new.wire c.take_behind.new.wire c.args.self.now.post c.begin.new.self.post c.take_behind.new.self.post c.in_ok-begun.ensures.puts c.in_ok-take_behind.ensures.sends
+
+-- the event of the line came to nothing
+pub returns-in_err-begun-clause-breaks : goal.returns-in_err-begun-clause-breaks
+returns-in_err-begun-clause-breaks g c =
+    on_err c.from_residual.result (λ start w order is_in. ([], inl refl, breaks_nothing g.D.Disk (moment c.args.self.now c.args.disk.now c.args.wire.now) (moment c.begin.new.self c.args.disk.now c.begin.new.wire) w
+    g.met.D.Disk.only_now c.requires.ready is_in refl (ap (λ t. t.items) c.begin.ensures.same.trace)))
+
+-- a hand-over came to an end
+pub returns-in_err-take_behind-clause-breaks : goal.returns-in_err-take_behind-clause-breaks
+returns-in_err-take_behind-clause-breaks g c =
+    on_err c.from_residual-in_err-take_behind.result (λ start w order is_in. (
+    let old : Cluster = c.args.self.now in
+    let before = moment old c.args.disk.now c.args.wire.now in
+    let after = moment c.take_behind.new.self c.take_behind.new.disk c.take_behind.new.wire in
+    subst (λ m. (es : List Event) × AreEventsOff w m c.args.line.now es × Breaks g.D.Disk old.registry w before after es) c.moment-now.ensures
+    (breaks_line g.D.Disk g.N.Wire before c.begin.new.self c.begin.new.wire c.moment-now.result c.args.line.now g.met.D.Disk.only_now c.requires.ready c.begin.ensures.same.registry
+    c.in_ok-begun.ensures.acts c.begin.ensures.handed start w order is_in after c.in_err-take_behind.ensures.breaks)))
+
+-- there was no room for the answer
+pub returns-in_err-answer-clause-breaks : goal.returns-in_err-answer-clause-breaks
+returns-in_err-answer-clause-breaks g c =
+    on_err c.from_residual-in_err-answer.result (λ start w order is_in. (
+    let old : Cluster = c.args.self.now in
+    let before = moment old c.args.disk.now c.args.wire.now in
+    let after = moment c.take_behind.new.self c.take_behind.new.disk c.take_behind.new.wire in
+    subst (λ m. (es : List Event) × AreEventsOff w m c.args.line.now es × Breaks g.D.Disk old.registry w before after es) c.moment-now.ensures
+    (breaks_late g.D.Disk g.N.Wire before c.begin.new.self c.begin.new.wire c.moment-now.result c.args.line.now g.met.D.Disk.only_now c.requires.ready c.begin.ensures.same.registry
+    c.in_ok-begun.ensures.acts c.begin.ensures.handed start w order is_in c.course-course.result c.take_behind.new.course after c.in_ok-take_behind.ensures.hands
+    after c.in_ok-take_behind.ensures.ready (c.take_behind.ensures.registry ∙ c.begin.ensures.same.registry) refl refl)))

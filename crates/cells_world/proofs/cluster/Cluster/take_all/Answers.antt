@@ -1,5 +1,6 @@
 use Rattle.std.proofs.Common.{inl, inr, ◌++◌, [], refl, ◌∙◌, arith}
 use Rattle.cells_world.specs.World.{at as moment}
+use Rattle.cells_world.proofs.Breaking.{breaks_then, on_err}
 use Rattle.cells_world.proofs.Growing.{grows_none, grows_on}
 use Rattle.cells_world.proofs.Going.{hands_nothing, hands_on}
 use Rattle.cells_world.proofs.Sending.{sends_nothing, sends_on}
@@ -57,3 +58,9 @@ returns-then-not-branch-clause-drains g c = λ tells still. inl (c.in_ok-take_on
 
 pub returns-clause-drains : goal.returns-clause-drains
 returns-clause-drains g c = λ tells still. inr (let takes = c.loop.invariant.takes in omega (arith, takes))
+
+-- one more came to an end by an error
+pub returns-in_err-take_one-clause-breaks : goal.returns-in_err-take_one-clause-breaks
+returns-in_err-take_one-clause-breaks g c =
+    on_err c.from_residual.result (breaks_then g.D.Disk g.N.Wire c.args.course.now c.loop.course (moment c.args.self.now c.args.disk.now c.args.wire.now) (moment c.loop.self c.loop.disk c.loop.wire) (moment c.take_one.new.self c.take_one.new.disk c.take_one.new.wire)
+    c.loop.invariant.registry c.requires.ready.configured c.loop.invariant.hands c.in_err-take_one.ensures.breaks)

@@ -1,8 +1,9 @@
-use Rattle.std.proofs.Common.{◌+◌, refl, ◌∙◌, ap, subst}
+use Rattle.std.proofs.Common.{◌+◌, [], refl, ◌∙◌, ap, subst}
 use Rattle.std.specs.Prelude.{Ok, Err}
 use Rattle.cells_edge.specs.Wire.{IsFront, IsTaken}
 use Rattle.cells_world.specs.World.{at as moment}
 use Rattle.cells_world.specs.declared.cluster.Cluster.{Cluster}
+use Rattle.cells_world.proofs.Breaking.{breaks_nothing, breaks_sent, on_err}
 use Rattle.cells_world.proofs.Growing.{grows_from, grows_none}
 use Rattle.cells_world.proofs.Going.{hands_none, hands_sent, hands_stray}
 use Rattle.cells_world.proofs.Posted.{sent_within}
@@ -94,3 +95,24 @@ returns-in-Ok-None-clause-drained g c = λ none tells still. (subst (λ o. IsFro
 
 pub returns-in-Err-Failed-clause-drained : goal.returns-in-Err-Failed-clause-drained
 returns-in-Err-Failed-clause-drained g c = λ none tells still. absurd (still (c.in-Err-Failed.ensures.cause.failed (ap Err c.in-Err-Failed.field-0-is)))
+
+-- no packet was taken for want of memory
+pub returns-in-Err-Memory-clause-breaks : goal.returns-in-Err-Memory-clause-breaks
+returns-in-Err-Memory-clause-breaks g c = λ start w order is_in. ([], tt, breaks_nothing g.D.Disk (moment c.args.self.now c.args.disk.now c.args.wire.now) (moment c.args.self.now c.args.disk.now c.take.new.self) w g.met.D.Disk.only_now c.requires.ready is_in refl refl)
+
+-- the hand-over came to an end
+pub returns-in_err-hand-in-Some-clause-breaks : goal.returns-in_err-hand-in-Some-clause-breaks
+returns-in_err-hand-in-Some-clause-breaks g c =
+    on_err c.from_residual.result (let counted : Cluster = record {
+      registry = c.args.self.now.registry;
+      service = c.args.self.now.service;
+      cells = c.args.self.now.cells;
+      post = c.args.self.now.post;
+      trace = c.args.self.now.trace;
+      notes = c.args.self.now.notes;
+      takes = c.args.self.now.takes + 1;
+      waited = c.args.self.now.waited;
+    } in
+    breaks_sent g.D.Disk (moment c.args.self.now c.args.disk.now c.args.wire.now) counted c.in-Ok-Some.packet
+    (record { registry = refl; service = refl; cells = refl; sent = refl; trace = refl; notes = refl; takes = refl })
+    c.in-Some.at (moment c.hand.new.self c.hand.new.disk c.hand.new.wire) c.take.new.self g.met.D.Disk.counts_now c.in-Some.ensures.found c.in_err-hand-in-Some.ensures.breaks)

@@ -14,8 +14,11 @@
 //! one that these events bring (`answer_of`), and what it put on the wire are the packets that it sent, but for those that were
 //! armed to be lost (`puts`). It takes packets where its event put one, until none is on its way or as many as a line may take.
 //!
+//! A line that comes to an end by a fault or for want of memory told the steps of some first events, and the files stand for the
+//! world behind these, or behind one more (`breaks`).
+//!
 //! That a line waits only where a packet was lost, a count rose or as many packets were taken as a line may take, no clause says
-//! in so many words; nor what stays of a line that came to an end by a fault or for want of memory.
+//! in so many words.
 #![tactic(auto)]
 
 mod answer;

@@ -268,16 +268,16 @@ breaks_by g w old new is = subst (λ x. BreaksThere g w x old new) is
 pub returns-in_err-reserve-clause-breaks : goal.returns-in_err-reserve-clause-breaks
 returns-in_err-reserve-clause-breaks g c =
     on_err c.from_residual.result (λ p at_p start w order is_in. record {
-  trace = c.reserve.ensures.items;
-  moments = λ tells. started g.D.Disk c.args.disk.now _ g.met.D.Disk.only_now (λ img is. inl (ready_is_of g.D.Disk c.args.disk.now c.args.self.now w c.requires.ready tells is_in img is));
-})
+      trace = c.reserve.ensures.items;
+      moments = λ tells. started g.D.Disk c.args.disk.now _ g.met.D.Disk.only_now (λ img is. inl (ready_is_of g.D.Disk c.args.disk.now c.args.self.now w c.requires.ready tells is_in img is));
+    })
 
 pub returns-in_err-reserve-2-clause-breaks : goal.returns-in_err-reserve-2-clause-breaks
 returns-in_err-reserve-2-clause-breaks g c =
     on_err c.from_residual-in_err-reserve-2.result (λ p at_p start w order is_in. record {
-  trace = c.reserve.ensures.items;
-  moments = λ tells. started g.D.Disk c.args.disk.now _ g.met.D.Disk.only_now (λ img is. inl (ready_is_of g.D.Disk c.args.disk.now c.args.self.now w c.requires.ready tells is_in img is));
-})
+      trace = c.reserve.ensures.items;
+      moments = λ tells. started g.D.Disk c.args.disk.now _ g.met.D.Disk.only_now (λ img is. inl (ready_is_of g.D.Disk c.args.disk.now c.args.self.now w c.requires.ready tells is_in img is));
+    })
 
 -- the service failed, or there was no room for its reply
 pub returns-in_err-served-in-Ask-clause-breaks : goal.returns-in_err-served-in-Ask-clause-breaks

@@ -58,8 +58,12 @@ returns-clause-puts g c = puts_on g.N.Wire c.args.line.now c.args.wire.now c.beg
 -- the event of the line came to nothing
 pub returns-in_err-begun-clause-breaks : goal.returns-in_err-begun-clause-breaks
 returns-in_err-begun-clause-breaks g c =
-    on_err c.from_residual.result (λ start w order is_in. ([], inl refl, breaks_nothing g.D.Disk (moment c.args.self.now c.args.disk.now c.args.wire.now) (moment c.begin.new.self c.args.disk.now c.begin.new.wire) w
-    g.met.D.Disk.only_now c.requires.ready is_in refl (ap (λ t. t.items) c.begin.ensures.same.trace)))
+    on_err c.from_residual.result (λ start w order is_in. (
+      [],
+      inl refl,
+      breaks_nothing g.D.Disk (moment c.args.self.now c.args.disk.now c.args.wire.now) (moment c.begin.new.self c.args.disk.now c.begin.new.wire) w
+          g.met.D.Disk.only_now c.requires.ready is_in refl (ap (λ t. t.items) c.begin.ensures.same.trace),
+    ))
 
 -- a hand-over came to an end
 pub returns-in_err-take_behind-clause-breaks : goal.returns-in_err-take_behind-clause-breaks

@@ -20,16 +20,13 @@ use Rattle.cells_cli.specs.Report.{Asked, IsWhole, IsFront, IsReport}
 use Rattle.cells_cli.specs.Answering.{EndsAt}
 use Rattle.cells_cli.specs.Script.{lines_done}
 use Rattle.cells_cli.specs.Ups.{nothing_told}
+use Rattle.cells_cli.proofs.Refusals.{here_or_behind}
 
 -- the line that is refused is behind lines that are not
-later_some : (b : Bool) (n k : ℕ) (rest : Option ℕ) → cond b (Some n) rest ≡ Some k → ((b ≡ true) × (n ≡ k)) ⊎ ((b ≡ false) × (rest ≡ Some k))
-later_some true n k rest h = inl (refl, cc)
-later_some false n k rest h = inr (refl, h)
-
 none_before : (given : ℕ) (lines : List (List ℕ)) (k : ℕ) → first_refused BODY given lines ≡ Some k → (n : ℕ) × (k ≡ given + n + 1) × (first_refused BODY given (take n lines) ≡ None)
 none_before given [] k h = cc
 none_before given (l ∷ ls) k h =
-    elim (later_some (nat_lt BODY (length l) || nat_le LINES given) (given + 1) k (first_refused BODY (given + 1) ls) h) [
+    elim (here_or_behind (nat_lt BODY (length l) || nat_le LINES given) (given + 1) k (first_refused BODY (given + 1) ls) h) [
       | inl now ↦ (0, (let is = now.1 in omega (arith, is)), refl)
       | inr later ↦
           let rest = none_before (given + 1) ls k later.1 in (

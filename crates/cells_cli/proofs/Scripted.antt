@@ -15,7 +15,7 @@ use Rattle.cells_world.specs.World.{At}
 use Rattle.cells_world.specs.declared.fault.ClusterError.TheVariants.{DiskFailed, Memory as NoRoom, Damaged}
 use Rattle.cells_world.specs.declared.fault.Damage.TheVariants.{NotAJournal as NoJournal, BadEntry as RefusedEntry, ConfigLacks as LacksCell, EpochsSpent as SpentEpochs}
 use Rattle.cells_cli.specs.Doing.{AreFirst, Does, SoFar, status_of, stop_of}
-use Rattle.cells_cli.specs.Lines.{first_refused, IsNext}
+use Rattle.cells_cli.specs.Lines.{first_refused}
 use Rattle.cells_cli.specs.ScriptLines.{script_lines_of}
 use Rattle.cells_cli.specs.Refused.{Refuses}
 use Rattle.cells_cli.specs.Script.{Numbered, done_with, is_skipped, line_refused, lines_done, reading_behind, reading_of, reading_with, refused_with}
@@ -31,6 +31,7 @@ use Rattle.cells_cli.specs.declared.status.Status.TheVariants.{End}
 use Rattle.cells_cli.specs.declared.up.UpStop.{UpStop}
 use Rattle.cells_cli.specs.declared.up.UpStop.TheVariants.{Script as ScriptStop, ReadFault as ReadStop, WriteFault as WriteStop, Memory as MemoryStop, Cluster as ClusterStop}
 use Rattle.cells_cli.proofs.Doing.{cluster_ended}
+use Rattle.cells_cli.proofs.Refusals.{here_or_behind}
 use Rattle.cells_cli.proofs.Telling.{numbered_append, all_numbered_append, telling_append}
 use Rattle.cells_cli.proofs.Went.{went_on, went_nowhere}
 
@@ -255,14 +256,10 @@ module _ {W D N : Type 0} (w : SinkGhosts W) (d : DiskGhosts D) (n : WireGhosts 
   }
 
 -- a line that is refused has a number behind those given
-later_some : (b : Bool) (n k : ℕ) (rest : Option ℕ) → cond b (Some n) rest ≡ Some k → ((b ≡ true) × (n ≡ k)) ⊎ ((b ≡ false) × (rest ≡ Some k))
-later_some true n k rest h = inl (refl, cc)
-later_some false n k rest h = inr (refl, h)
-
 later_than : (limit given : ℕ) (lines : List (List ℕ)) (k : ℕ) → first_refused limit given lines ≡ Some k → given < k
 later_than limit given [] k h = absurd cc
 later_than limit given (l ∷ ls) k h =
-    elim (later_some (nat_lt limit (length l) || nat_le LINES given) (given + 1) k (first_refused limit (given + 1) ls) h) [
+    elim (here_or_behind (nat_lt limit (length l) || nat_le LINES given) (given + 1) k (first_refused limit (given + 1) ls) h) [
       | inl now ↦ (let is = now.1 in omega (arith, is))
       | inr rest ↦ (let more = later_than limit (given + 1) ls k rest.1 in omega (arith, more))
     ]
@@ -282,17 +279,12 @@ over_refused given line h = either_refused (nat_lt LINE_BYTES (length line)) (na
 refused_now : (given : ℕ) (lines : List (List ℕ)) → first_refused LINE_BYTES given lines ≡ Some (given + 1) → (line_refused given lines ≡ Some (given + 1)) × (lines_done given lines ≡ [])
 refused_now given [] h = absurd cc
 refused_now given (l ∷ ls) h =
-    elim (later_some (nat_lt LINE_BYTES (length l) || nat_le LINES given) (given + 1) (given + 1) (first_refused LINE_BYTES (given + 1) ls) h) [
+    elim (here_or_behind (nat_lt LINE_BYTES (length l) || nat_le LINES given) (given + 1) (given + 1) (first_refused LINE_BYTES (given + 1) ls) h) [
       | inl now ↦ (
           let is = over_refused given l now.0 in
           (ap (λ r. refused_with (given + 1) r (line_refused (given + 1) ls)) is, ap (λ r. done_with (given + 1) r (lines_done (given + 1) ls)) is))
       | inr rest ↦ (let more = later_than LINE_BYTES (given + 1) ls (given + 1) rest.1 in absurd (omega (arith, more)))
     ]
-
--- what a reader says where it gave a line
-pub gives_next : (some : Bool) (ahead line rest : List ℕ) → some ≡ true → IsNext script_lines_of ahead some line rest → script_lines_of ahead ≡ line ∷ script_lines_of rest
-gives_next true ahead line rest t h = h
-gives_next false ahead line rest t h = absurd cc
 
 -- a reader's fault, by what it says of it
 pub refuses_ahead : (given limit : ℕ) (lines : List (List ℕ)) (fault : LineFault) → limit ≡ LINE_BYTES → Refuses fault (first_refused limit given lines)

@@ -23,7 +23,7 @@ pub returns-in_default-clause-report : goal.returns-in_default-clause-report
 returns-in_default-clause-report g c a b w =
     let asked = asked_by c.args.words.now (g.A.Source.left c.args.config.now) (g.B.Source.left c.args.script.now) in
     let once : asked.job ≡ Err Usage = ap (λ (command : Option Command). job_of command (g.A.Source.left c.args.config.now)) (sym c.command_of.ensures ∙ c.in_default.is) in
-    at_once asked Usage (λ e. cc) (inl once) _ _ c.finish.result c.finish.ensures.ends (λ h. c.finish.ensures.told h w) (λ h. c.finish.ensures.part h w)
+    at_once asked Usage (λ e. cc) (inl once) _ _ c.finish.result c.finish.ensures.ends ((λ h. c.finish.ensures.told h w), (λ h. c.finish.ensures.part h w))
 
 pub returns-in-Err-clause-report : goal.returns-in-Err-clause-report
 returns-in-Err-clause-report g c a b w =
@@ -34,8 +34,8 @@ returns-in-Err-clause-report g c a b w =
     let told = subst (λ (command : Option Command). Configures (Err fault) (job_of command (g.A.Source.left c.args.config.now))) is (c.in-Err.ensures.told reads) in
     let own = c.from.ensures in
     let ends = subst (λ (s : Status). EndsWith s c.finish-in-Err.result) own c.finish-in-Err.ensures.ends in
-    at_once asked (status_of_config fault) (config_other fault) (config_ends fault asked.job told) _ _ c.finish-in-Err.result ends (λ h. c.finish-in-Err.ensures.told h w)
-    (λ h. let p = c.finish-in-Err.ensures.part h w in (p.0, (p.1.0, subst (λ (s : Status). (p.1.0 ≡ s) ⊎ (p.1.0 ≡ Memory)) own p.1.1, p.1.2), p.2))
+    at_once asked (status_of_config fault) (config_other fault) (config_ends fault asked.job told) _ _ c.finish-in-Err.result ends
+    ((λ h. c.finish-in-Err.ensures.told h w), (λ h. subst (λ (s : Status). WritesFrontOf g.W.Sink c.args.out.now c.finish-in-Err.new.out s) own (c.finish-in-Err.ensures.part h) w))
 
 pub returns-in-Ok-Answer-clause-report : goal.returns-in-Ok-Answer-clause-report
 returns-in-Ok-Answer-clause-report g c a b w =

@@ -24,18 +24,8 @@ use Rattle.cells_cli.specs.declared.status.Status.{Status}
 use Rattle.cells_cli.specs.declared.status.Status.TheVariants.{End, Script, ReadFault, WriteFault, Memory}
 use Rattle.cells_cli.specs.declared.up.UpStop.{UpStop}
 use Rattle.cells_cli.specs.declared.up.UpStop.TheVariants.{Script as ScriptStop, ReadFault as ReadStop, WriteFault as WriteStop, Memory as MemoryStop, Cluster as ClusterStop}
+use Rattle.cells_cli.proofs.Doing.{all_written, cluster_apart, to_first}
 use Rattle.cells_cli.proofs.Reported.{EndsWith, by_end}
-
--- whichever lines were told of, they are some first ones
-to_first : (wanted : List Numbered) (refused : Option ℕ) (told : Telling) (status : Status) → AreTold wanted refused told status → AreFirst (numbered told.items ++ numbered_broken told.broken) wanted
-to_first wanted refused told End h = ([], ap (λ br. (numbered told.items ++ numbered_broken br) ++ []) h.1 ∙ append-nil (numbered told.items ++ []) ∙ append-nil (numbered told.items) ∙ h.2)
-to_first wanted refused told (Script line) h = ([], ap (λ br. (numbered told.items ++ numbered_broken br) ++ []) h.1 ∙ append-nil (numbered told.items ++ []) ∙ append-nil (numbered told.items) ∙ h.2)
-to_first wanted refused told ReadFault h = subst (λ (l : List Numbered). AreFirst l wanted) (sym (ap (λ br. numbered told.items ++ numbered_broken br) h.0 ∙ append-nil (numbered told.items))) h.1
-to_first wanted refused told other h = h
-
-all_written : {W : Type 0} (w : SinkGhosts W) (told : Telling) (out out_now : W) (status : Status) → status ≢ WriteFault → IsWritten w told out out_now status → WritesAll w out out_now (telling_text told)
-all_written w told out out_now WriteFault apart h = absurd (apart refl)
-all_written w told out out_now other apart h = h
 
 whole_report : (tells : Bool) (wanted : List Numbered) (refused : Option ℕ) (told : Telling) (status : Status) (report : List ℕ) → status ≢ WriteFault → report ≡ telling_text told ++ last_line status → IsReportOf tells wanted refused told status report
 whole_report tells wanted refused told WriteFault report apart h = absurd (apart refl)
@@ -211,12 +201,7 @@ not_writing (ScriptStop line) other h = cc
 not_writing ReadStop other h = cc
 not_writing WriteStop other h = other refl
 not_writing MemoryStop other h = cc
-not_writing (ClusterStop (DiskFailed file)) other h = cc
-not_writing (ClusterStop NoRoom) other h = cc
-not_writing (ClusterStop (Damaged file (NoJournal at))) other h = cc
-not_writing (ClusterStop (Damaged file (RefusedEntry index))) other h = cc
-not_writing (ClusterStop (Damaged file (LacksCell cell))) other h = cc
-not_writing (ClusterStop (Damaged file SpentEpochs)) other h = cc
+not_writing (ClusterStop error) other h = cluster_apart error h
 
 -- what was written is a report of what was asked
 upped : (lines : List (List ℕ)) (told : Telling) (status : Status) (report : List ℕ) → status ≢ WriteFault → AreTold (lines_done 0 lines) (line_refused 0 lines) told status → report ≡ telling_text told ++ last_line status → IsUpped lines status report

@@ -12,9 +12,7 @@ use Rattle.cells_script.specs.Lines.{line_of}
 use Rattle.cells_script.specs.declared.limits.TheConstants.{LINE_BYTES}
 use Rattle.cells_world.specs.Cluster.{IsReady}
 use Rattle.cells_world.specs.World.{At}
-use Rattle.cells_world.specs.declared.fault.ClusterError.TheVariants.{DiskFailed, Memory as NoRoom, Damaged}
-use Rattle.cells_world.specs.declared.fault.Damage.TheVariants.{NotAJournal as NoJournal, BadEntry as RefusedEntry, ConfigLacks as LacksCell, EpochsSpent as SpentEpochs}
-use Rattle.cells_cli.specs.Doing.{AreFirst, Does, SoFar, status_of, stop_of}
+use Rattle.cells_cli.specs.Doing.{AreFirst, Does, SoFar, status_of, status_of_cluster, stop_of}
 use Rattle.cells_cli.specs.Lines.{first_refused}
 use Rattle.cells_cli.specs.ScriptLines.{script_lines_of}
 use Rattle.cells_cli.specs.Refused.{Refuses}
@@ -30,7 +28,7 @@ use Rattle.cells_cli.specs.declared.status.Status.{Status}
 use Rattle.cells_cli.specs.declared.status.Status.TheVariants.{End}
 use Rattle.cells_cli.specs.declared.up.UpStop.{UpStop}
 use Rattle.cells_cli.specs.declared.up.UpStop.TheVariants.{Script as ScriptStop, ReadFault as ReadStop, WriteFault as WriteStop, Memory as MemoryStop, Cluster as ClusterStop}
-use Rattle.cells_cli.proofs.Doing.{cluster_ended}
+use Rattle.cells_cli.proofs.Doing.{all_written, cluster_apart, cluster_ended, to_first}
 use Rattle.cells_cli.proofs.Refusals.{here_or_behind}
 use Rattle.cells_cli.proofs.Telling.{numbered_append, all_numbered_append, telling_append}
 use Rattle.cells_cli.proofs.Went.{went_on, went_nowhere}
@@ -184,12 +182,12 @@ module _ {W D N : Type 0} (w : SinkGhosts W) (d : DiskGhosts D) (n : WireGhosts 
       lines = λ t. first_joined does.told t (does.lines refl);
       written = written_all does.told does.written;
     }
-    ended_here (ClusterStop (DiskFailed file)) does = cluster_ended w d n tells wanted refused a c out out_now (joined does.told) does.here does.ready (went_there does.told.items does.here does.went) (λ t. first_joined does.told t (does.lines refl)) (written_all does.told does.written) (DiskFailed file)
-    ended_here (ClusterStop NoRoom) does = cluster_ended w d n tells wanted refused a c out out_now (joined does.told) does.here does.ready (went_there does.told.items does.here does.went) (λ t. first_joined does.told t (does.lines refl)) (written_all does.told does.written) NoRoom
-    ended_here (ClusterStop (Damaged file (NoJournal at))) does = cluster_ended w d n tells wanted refused a c out out_now (joined does.told) does.here does.ready (went_there does.told.items does.here does.went) (λ t. first_joined does.told t (does.lines refl)) (written_all does.told does.written) (Damaged file (NoJournal at))
-    ended_here (ClusterStop (Damaged file (RefusedEntry index))) does = cluster_ended w d n tells wanted refused a c out out_now (joined does.told) does.here does.ready (went_there does.told.items does.here does.went) (λ t. first_joined does.told t (does.lines refl)) (written_all does.told does.written) (Damaged file (RefusedEntry index))
-    ended_here (ClusterStop (Damaged file (LacksCell cell))) does = cluster_ended w d n tells wanted refused a c out out_now (joined does.told) does.here does.ready (went_there does.told.items does.here does.went) (λ t. first_joined does.told t (does.lines refl)) (written_all does.told does.written) (Damaged file (LacksCell cell))
-    ended_here (ClusterStop (Damaged file SpentEpochs)) does = cluster_ended w d n tells wanted refused a c out out_now (joined does.told) does.here does.ready (went_there does.told.items does.here does.went) (λ t. first_joined does.told t (does.lines refl)) (written_all does.told does.written) (Damaged file SpentEpochs)
+    ended_here (ClusterStop error) does =
+        let own = status_of_cluster error in
+        let here = done_with (given + 1) (reading_of text) [] in
+        cluster_ended w d n tells wanted refused a c out out_now (joined does.told) does.here does.ready (went_there does.told.items does.here does.went)
+        (λ t. first_joined does.told t (to_first here (refused_with (given + 1) (reading_of text) None) does.told own (does.lines refl)))
+        (written_all does.told (all_written w does.told mid out_now own (cluster_apart error) does.written)) error
 
   -- the lines ahead are these
   pub so_far_ahead : (given : ℕ) (ahead now : List (List ℕ)) (a b : At D N) (out mid : W) → SoFar w d n tells wanted refused given ahead a b out mid → (IsTrue tells → ahead ≡ now) → SoFar w d n tells wanted refused given now a b out mid

@@ -2,11 +2,12 @@
 use Rattle.std.proofs.Common.{◌≡◌, ◌==◌, ℕ, zero, suc, ◌+◌, ◌-◌, ◌<◌, ◌≤◌, ◌||◌, nat_lt, nat_le, cond, Option, Some, None, add-one, Bool, true, false, if◌then◌else◌, List, [], ◌∷◌, ◌++◌, length, take, drop, append_assoc, Result, Err, refl, sym, ap, ◌∙◌, arith}
 use Rattle.std.proofs.lemmas.List.{append-nil}
 use Rattle.std.proofs.lemmas.Bool.Decides.{nat_tests}
+use Rattle.cells_base.proofs.Truth.{not_picked}
 use Rattle.message_json.specs.RequestReader.{request_of}
 use Rattle.claim_map.specs.Registry.{Registry}
 use Rattle.claim_map.specs.State.{ClaimMap}
 use Rattle.cells_edge.specs.Edge.{IsPrefix}
-use Rattle.cells_cli.specs.Lines.{lines_of, IsNext, first_refused}
+use Rattle.cells_cli.specs.Lines.{first_refused}
 use Rattle.cells_cli.specs.declared.replay.Stop.{Stop}
 use Rattle.cells_cli.specs.declared.replay.Stop.TheVariants.{Script, ReadFault, WriteFault, Memory}
 use Rattle.cells_cli.specs.Replay.{answer_to, map_after, line_answer, after_line, answers, after_lines, NoneRefused, IsAnswered}
@@ -120,14 +121,10 @@ length_taken zero (l ∷ ls) line rest h = refl
 length_taken (suc n) [] line rest h = absurd cc
 length_taken (suc n) (l ∷ ls) line rest h = let tail = length_taken n ls line rest h in omega (arith, tail)
 
-later_none : (b : Bool) (k : ℕ) (rest : Option ℕ) → cond b (Some k) rest ≡ None → (b ≡ false) × (rest ≡ None)
-later_none true k rest h = cc
-later_none false k rest h = (refl, h)
-
 one_more : (limit given : ℕ) (lines : List (List ℕ)) (line : List ℕ) → first_refused limit given lines ≡ None → length line ≤ limit → given + length lines < LINES → first_refused limit given (lines ++ line ∷ []) ≡ None
 one_more limit given [] line none short few = passes limit given line [] short (omega (arith, few))
 one_more limit given (l ∷ ls) line none short few =
-    let both = later_none (nat_lt limit (length l) || nat_le LINES given) (given + 1) (first_refused limit (given + 1) ls) none in
+    let both = not_picked (nat_lt limit (length l) || nat_le LINES given) (given + 1) (first_refused limit (given + 1) ls) none in
     let fewer : given + 1 + length ls < LINES = omega (arith, few) in
     ap (λ b. cond b (Some (given + 1)) (first_refused limit (given + 1) (ls ++ line ∷ []))) both.0 ∙ one_more limit (given + 1) ls line both.1 short fewer
 
@@ -136,12 +133,3 @@ none_refused_more lines n line rest ahead more counted none short few =
     ap (λ k. first_refused BODY 0 (take k lines)) (counted ∙ add-one n)
     ∙ ap (first_refused BODY 0) (next_take n lines line rest ahead)
     ∙ one_more BODY 0 (take n lines) line none short (let taken = length_taken n lines line rest ahead in omega (arith, taken, few))
-
--- what a reader says where it gave a line
-pub next_is : (some : Bool) (ahead line rest : List ℕ) → some ≡ true → IsNext lines_of ahead some line rest → lines_of ahead ≡ line ∷ lines_of rest
-next_is true ahead line rest t h = h
-next_is false ahead line rest t h = absurd cc
-
-pub counted_is : (some : Bool) (more n : ℕ) → some ≡ true → more ≡ (if some then n + 1 else n) → more ≡ n + 1
-counted_is true more n t h = h
-counted_is false more n t h = absurd cc

@@ -8,7 +8,7 @@ use Rattle.std.proofs.lemmas.List.{append-nil}
 use Rattle.cells_base.proofs.Truth.{not_picked}
 use Rattle.cells_cli.specs.Lines.{is_end, lines_of, StartsLong}
 
-one_more : (n : ℕ) → 1 + n ≡ suc n
+pub one_more : (n : ℕ) → 1 + n ≡ suc n
 one_more n = omega arith
 
 cut_at_len : (p left : List ℕ) → position_or_len is_end p < length p → lines_of (p ++ left) ≡ take (position_or_len is_end p) p ∷ lines_of (drop (position_or_len is_end p + 1) p ++ left)

@@ -4,7 +4,9 @@ use Rattle.std.specs.List.{Contains, list_any}
 use Rattle.std.proofs.lemmas.Bool.Decides.{Decides-eqb}
 use Rattle.std.proofs.lemmas.List.{map-append}
 use Rattle.std.proofs.lemmas.List.Elements.{Contains-get_or, Contains-append_cases}
+use Rattle.cells_base.proofs.Finds.{none_any}
 use Rattle.cells_base.proofs.Members.{here_or_later, nowhere, of_map}
+use Rattle.cells_base.proofs.Truth.{not_picked}
 use Rattle.claim_types.specs.declared.cell.Cell.{Cell}
 use Rattle.claim_map.specs.Registry.{Registry}
 use Rattle.cell_registry.specs.Bounds.{is_registry, repeated_id}
@@ -15,32 +17,21 @@ use Rattle.cells_cli.specs.Files.{AreDistinct}
 abbrev ids : List Cell → List ℕ
 ids cells = map (λ c. c.id) cells
 
-neither : (a b : Bool) → (a || b) ≡ false → (a ≡ false) × (b ≡ false)
-neither true b h = absurd cc
-neither false b h = (refl, h)
-
-none_found : {X : Type 0} (b : Bool) (x : X) (rest : Option X) → cond b (Some x) rest ≡ None → (b ≡ false) × (rest ≡ None)
-none_found true x rest h = absurd cc
-none_found false x rest h = (refl, h)
-
 -- a number that no cell has
 not_among : (id : ℕ) (cells : List Cell) → list_any (λ (e : Cell). nat_eq e.id id) cells ≡ false → Contains (ids cells) id → ⊥
-not_among id [] none h = nowhere id h
-not_among id (c ∷ cs) none h =
-    let both = neither (nat_eq c.id id) (list_any (λ (e : Cell). nat_eq e.id id) cs) none in
-    elim (here_or_later c.id (ids cs) id h) [
-      | inl same ↦ let yes : true ≡ false = sym ((Decides-eqb c.id id).1 same) ∙ both.0 in absurd cc
-      | inr there ↦ not_among id cs both.1 there
-    ]
+not_among id cells none h =
+    let cell = of_map (λ (c : Cell). c.id) cells id h in
+    let yes : true ≡ false = sym ((Decides-eqb cell.0.id id).1 cell.2) ∙ none_any (λ (e : Cell). nat_eq e.id id) cells cell.0 none cell.1 in
+    absurd cc
 
 -- no id stands behind itself, where these cells stand behind the earlier ones
 none_behind : (earlier cells : List Cell) → repeated_id earlier cells ≡ None → (n : ℕ) → n < length (ids cells) → Contains (ids earlier ++ take n (ids cells)) (get_or (ids cells) n 0) → ⊥
 none_behind earlier [] none n lt among = absurd (omega (arith, lt))
 none_behind earlier (c ∷ cs) none zero lt among =
-    let free = none_found (list_any (λ (e : Cell). nat_eq e.id c.id) earlier) _ (repeated_id (earlier ++ c ∷ []) cs) none in
+    let free = not_picked (list_any (λ (e : Cell). nat_eq e.id c.id) earlier) _ (repeated_id (earlier ++ c ∷ []) cs) none in
     elim (Contains-append_cases (ids earlier) [] c.id among) [ inl there ↦ not_among c.id earlier free.0 there | inr nothing ↦ nowhere c.id nothing ]
 none_behind earlier (c ∷ cs) none (suc n) lt among =
-    let free = none_found (list_any (λ (e : Cell). nat_eq e.id c.id) earlier) _ (repeated_id (earlier ++ c ∷ []) cs) none in
+    let free = not_picked (list_any (λ (e : Cell). nat_eq e.id c.id) earlier) _ (repeated_id (earlier ++ c ∷ []) cs) none in
     let here = get_or (ids cs) n 0 in
     let less : n < length (ids cs) = omega (arith, lt) in
     none_behind (earlier ++ c ∷ []) cs free.1 n less

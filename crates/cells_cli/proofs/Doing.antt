@@ -1,5 +1,5 @@
 -- What doing a line came to, from what was told of it.
-use Rattle.std.proofs.Common.{◌≡◌, ℕ, Bool, true, IsTrue, List, [], ◌∷◌, ◌++◌, Option, Some, None, Result, Ok, Err, refl, sym, ◌∙◌, ap, subst}
+use Rattle.std.proofs.Common.{◌≡◌, ◌≢◌, ℕ, Bool, true, IsTrue, List, [], ◌∷◌, ◌++◌, Option, Some, None, Result, Ok, Err, refl, sym, ◌∙◌, ap, subst}
 use Rattle.std.proofs.lemmas.List.{append-nil}
 use Rattle.cells_edge.specs.Edge.{IsPrefix}
 use Rattle.cells_edge.specs.Streams.{WritesAll}
@@ -12,17 +12,39 @@ use Rattle.cells_world.specs.World.{At}
 use Rattle.cells_world.specs.declared.fault.ClusterError.{ClusterError}
 use Rattle.cells_world.specs.declared.fault.ClusterError.TheVariants.{DiskFailed, Memory as NoRoom, Damaged}
 use Rattle.cells_world.specs.declared.fault.Damage.TheVariants.{NotAJournal as NoJournal, BadEntry as RefusedEntry, ConfigLacks as LacksCell, EpochsSpent as SpentEpochs}
-use Rattle.cells_cli.specs.Doing.{AreFirst, Does, DoesLine, DoesText, Tells, ended, status_of_cluster, stopped_by}
+use Rattle.cells_cli.specs.Doing.{AreFirst, AreTold, Does, DoesLine, DoesText, IsWritten, Tells, ended, status_of_cluster, stopped_by}
 use Rattle.cells_cli.specs.Script.{Numbered, done_with, reading_of, refused_with}
 use Rattle.cells_cli.specs.Told.{Item, Broken, Telling, broken_off_text, item_text, numbered, numbered_broken, telling_text}
 use Rattle.cells_cli.specs.Ups.{nothing_told}
 use Rattle.cells_cli.specs.Went.{Went}
 use Rattle.cells_cli.specs.declared.reading.Reading.{Reading}
 use Rattle.cells_cli.specs.declared.reading.Reading.TheVariants.{Skipped, Wanted, Refused}
-use Rattle.cells_cli.specs.declared.status.Status.TheVariants.{End, Script, Memory}
+use Rattle.cells_cli.specs.declared.status.Status.{Status}
+use Rattle.cells_cli.specs.declared.status.Status.TheVariants.{End, Script, ReadFault, WriteFault, Memory}
 use Rattle.cells_cli.specs.declared.up.UpStop.{UpStop}
 use Rattle.cells_cli.specs.declared.up.UpStop.TheVariants.{Script as ScriptStop, ReadFault as ReadStop, WriteFault as WriteStop, Memory as MemoryStop, Cluster as ClusterStop}
 use Rattle.cells_cli.proofs.Went.{went_nowhere}
+
+-- whichever lines were told of, they are some first ones
+pub to_first : (wanted : List Numbered) (refused : Option ℕ) (told : Telling) (status : Status) → AreTold wanted refused told status → AreFirst (numbered told.items ++ numbered_broken told.broken) wanted
+to_first wanted refused told End h = ([], ap (λ br. (numbered told.items ++ numbered_broken br) ++ []) h.1 ∙ append-nil (numbered told.items ++ []) ∙ append-nil (numbered told.items) ∙ h.2)
+to_first wanted refused told (Script line) h = ([], ap (λ br. (numbered told.items ++ numbered_broken br) ++ []) h.1 ∙ append-nil (numbered told.items ++ []) ∙ append-nil (numbered told.items) ∙ h.2)
+to_first wanted refused told ReadFault h = subst (λ (l : List Numbered). AreFirst l wanted) (sym (ap (λ br. numbered told.items ++ numbered_broken br) h.0 ∙ append-nil (numbered told.items))) h.1
+to_first wanted refused told other h = h
+
+-- all that is told was written, where the sink did not fail
+pub all_written : {W : Type 0} (w : SinkGhosts W) (told : Telling) (out out_now : W) (status : Status) → status ≢ WriteFault → IsWritten w told out out_now status → WritesAll w out out_now (telling_text told)
+all_written w told out out_now WriteFault apart h = absurd (apart refl)
+all_written w told out out_now other apart h = h
+
+-- a cluster's end is no fault of writing
+pub cluster_apart : (error : ClusterError) → status_of_cluster error ≢ WriteFault
+cluster_apart (DiskFailed file) h = cc
+cluster_apart NoRoom h = cc
+cluster_apart (Damaged file (NoJournal at)) h = cc
+cluster_apart (Damaged file (RefusedEntry index)) h = cc
+cluster_apart (Damaged file (LacksCell cell)) h = cc
+cluster_apart (Damaged file SpentEpochs) h = cc
 
 module _ {W D N : Type 0} (w : SinkGhosts W) (d : DiskGhosts D) (n : WireGhosts N) where
   module _ (tells : Bool) (wanted : List Numbered) (refused : Option ℕ) (a c : At D N) (out out_now : W) where
@@ -97,7 +119,7 @@ module _ {W D N : Type 0} (w : SinkGhosts W) (d : DiskGhosts D) (n : WireGhosts 
 
   -- a line by its bytes
   module _ (number : ℕ) (text : List ℕ) (a : At D N) (out : W) (only_now : OnlyNow d) (ready : IsReady d a.disk a.cluster) where
-    abbrev DoesSo : Reading → At D N → W → Rattle.cells_cli.specs.declared.status.Status.Status → Type 0
+    abbrev DoesSo : Reading → At D N → W → Status → Type 0
     DoesSo r c out_now status = Does w d n true (done_with number r []) (refused_with number r None) a c out out_now status
 
     pub skipped : Skipped ≡ reading_of text → (result : Result (Unit {0}) UpStop) → result ≡ Ok tt → DoesText w d n number text a a out out result

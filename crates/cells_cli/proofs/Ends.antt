@@ -11,11 +11,8 @@ use Rattle.cells_cli.specs.LineEnds.{lines_by, line_text, most_bytes, EndsWith, 
 use Rattle.cells_cli.specs.ScriptLines.{script_lines_of}
 use Rattle.cells_cli.specs.declared.lines.LineEnd.{LineEnd}
 use Rattle.cells_cli.specs.declared.lines.LineEnd.TheVariants.{Feed, ReturnAndFeed}
-use Rattle.cells_cli.proofs.Cuts.{cut_at, cut_last, long_open}
+use Rattle.cells_cli.proofs.Cuts.{cut_at, cut_last, long_open, one_more}
 use Rattle.cells_cli.proofs.Scripts.{HasNoEnd, script_ended, script_open, none_dropped}
-
-one_behind : (n : ℕ) → 1 + n ≡ suc n
-one_behind n = omega arith
 
 split_len : (p : List ℕ) → position_or_len is_end p < length p → HasNoEnd (take (position_or_len is_end p) p) × (p ≡ take (position_or_len is_end p) p ++ 10 ∷ drop (position_or_len is_end p + 1) p)
 split_len [] lt = absurd (omega arith)
@@ -30,9 +27,9 @@ split_len (b ∷ bs) lt =
           let more : 1 + n + 1 ≡ suc (n + 1) = omega arith in
           let short : n < length bs = omega arith in
           let rest = split_len bs short in (
-            subst (λ k. HasNoEnd (take k (b ∷ bs))) (sym (one_behind n)) (other, rest.0),
+            subst (λ k. HasNoEnd (take k (b ∷ bs))) (sym (one_more n)) (other, rest.0),
             ap (λ (l : List ℕ). b ∷ l) rest.1
-                ∙ ap (λ m. take m (b ∷ bs) ++ 10 ∷ drop (n + 1) bs) (sym (one_behind n))
+                ∙ ap (λ m. take m (b ∷ bs) ++ 10 ∷ drop (n + 1) bs) (sym (one_more n))
                 ∙ ap (λ m. take (1 + n) (b ∷ bs) ++ 10 ∷ drop m (b ∷ bs)) (sym more),
           )
     ] refl lt

@@ -15,7 +15,7 @@ use Rattle.cells_cli.specs.Installed.{status_of, IsInstalled, EndsInit, DiskFail
 use Rattle.cells_cli.specs.Making.{HasCause, LeavesBy}
 use Rattle.cells_cli.specs.Report.{Asked, IsFront, IsReport}
 use Rattle.cells_cli.specs.Status.{last_line}
-use Rattle.cells_cli.proofs.Reported.{EndsWith, reports}
+use Rattle.cells_cli.proofs.Reported.{EndsWith, IsLast, by_end, reports}
 
 pub not_write : (stop : InitStop) → stop ≢ WriteStop → status_of stop ≢ WriteFault
 not_write (InUse file size) other h = cc
@@ -49,21 +49,16 @@ module _ (files : List ℕ) (bytes : List ℕ) where
     abbrev asked : Asked
     asked = record { job = Ok (makes_files files); lines = lines }
 
-    -- the last line of a run, or a front of it
-    abbrev IsLast : Status → Type 0
-    IsLast own = (result ≢ WriteFault → now ≡ mid ++ last_line result)
-        × (result ≡ WriteFault → (front : List ℕ) × ((last : Status) × ((last ≡ own) ⊎ (last ≡ Memory)) × IsPrefix front (last_line last)) × (now ≡ mid ++ front))
-
-    pub stopped : (stop : InitStop) → stop ≢ WriteStop → IsTold files (Err stop) bytes → EndsWith (status_of stop) result → IsLast (status_of stop)
+    pub stopped : (stop : InitStop) → stop ≢ WriteStop → IsTold files (Err stop) bytes → EndsWith (status_of stop) result → IsLast (status_of stop) result mid now
         → (report : List ℕ) × IsReport asked result report × (now ≡ before ++ report)
-    stopped stop other h ends last = reports asked bytes (status_of stop) (not_write stop other) (with_own stop other h) (with_memory stop other h) before mid now so_far result ends last.0 last.1
+    stopped stop other h ends last = reports asked bytes (status_of stop) (not_write stop other) (with_own stop other h) (with_memory stop other h) before mid now so_far result ends last
 
-    pub all_made : bytes ≡ made_lines files → EndsWith End result → IsLast End → (report : List ℕ) × IsReport asked result report × (now ≡ before ++ report)
+    pub all_made : bytes ≡ made_lines files → EndsWith End result → IsLast End result mid now → (report : List ℕ) × IsReport asked result report × (now ≡ before ++ report)
     all_made h ends last =
         let few : length files ≤ length files = omega arith in
         reports asked bytes End (λ e. cc) (ap (λ (b : List ℕ). b ++ last_line End) h)
         (length files, ap (λ (b : List ℕ). b ++ last_line Memory) (h ∙ ap made_lines (sym (take_all (length files) files few))))
-        before mid now so_far result ends last.0 last.1
+        before mid now so_far result ends last
 
 -- the statuses with which the making of files may end
 stops_init : (stop : InitStop) → EndsInit (status_of stop)
@@ -71,9 +66,6 @@ stops_init (InUse file size) = tt
 stops_init (Disk file) = tt
 stops_init WriteStop = tt
 stops_init MemoryStop = tt
-
-pub by_end : (P : Status → Type 0) (own result : Status) → P own → P Memory → P WriteFault → EndsWith own result → P result
-by_end P own result o m w ends = elim ends [ inl e ↦ subst P (sym e) o | inr (inl e) ↦ subst P (sym e) m | inr (inr e) ↦ subst P (sym e) w ]
 
 pub ends_init : (stop : InitStop) (result : Status) → EndsWith (status_of stop) result → EndsInit result
 ends_init stop result = by_end EndsInit (status_of stop) result (stops_init stop) tt tt
@@ -99,11 +91,9 @@ module _ {W D : Type 0} (w : SinkGhosts W) (d : DiskGhosts D) (files : List ℕ)
   leaves_own MemoryStop h told = tt
 
   pub leaves_by : (stop : InitStop) (result : Status) → stop ≢ WriteStop → LeavesBy d files out mid disk disk_now (Err stop) → EndsWith (status_of stop) result → (result ≢ WriteFault → WritesAll w mid now (last_line result)) → LeavesByStatus w d files out now disk disk_now result
-  leaves_by stop result other h ends told = elim ends [
-    | inl own ↦ subst (LeavesByStatus w d files out now disk disk_now) (sym own) (leaves_own stop h (subst (λ (s : Status). WritesAll w mid now (last_line s)) own (told (λ e. not_write stop other (sym own ∙ e)))))
-    | inr (inl memory) ↦ subst (LeavesByStatus w d files out now disk disk_now) (sym memory) tt
-    | inr (inr write) ↦ subst (LeavesByStatus w d files out now disk disk_now) (sym write) tt
-  ]
+  leaves_by stop result other h ends told =
+      by_end (λ (s : Status). (s ≢ WriteFault → WritesAll w mid now (last_line s)) → LeavesByStatus w d files out now disk disk_now s) (status_of stop) result
+      (λ line. leaves_own stop h (line (not_write stop other))) (λ line. tt) (λ line. tt) ends told
 
   pub leaves_done : (result : Status) → AreMade d files disk disk_now → EndsWith End result → LeavesByStatus w d files out now disk disk_now result
   leaves_done result h = by_end (LeavesByStatus w d files out now disk disk_now) End result h tt tt

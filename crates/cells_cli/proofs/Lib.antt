@@ -3,6 +3,7 @@ pub mod Scripts
 pub mod Ends
 pub mod Places
 pub mod Refusals
+pub mod Steps
 pub mod Runs
 pub mod Answered
 pub mod Reported

@@ -10,6 +10,7 @@ use Rattle.disk_journal.specs.Disk.{Image}
 use Rattle.disk_journal.specs.Journal.{IsJournal, fresh}
 use Rattle.disk_journal.specs.Moments.{Stays, StaysEverywhere}
 use Rattle.disk_journal.specs.declared.disk.Disk.{Ghosts}
+use Rattle.disk_journal.proofs.Settled.{stays_on as stays_join}
 use Rattle.cells_cli.specs.Files.{AreDistinct, IsFree, IsMade, IsTold, made_line, made_lines}
 use Rattle.cells_cli.specs.Making.{Outcome, AreStops, AreAnswered, IsFresh, IsSaid, IsCause, IsMadeOr, AreFreshOr, LeavesBy}
 use Rattle.cells_cli.specs.declared.init.InitStop.{InitStop}
@@ -62,11 +63,8 @@ is_made img file is = record { size = ap (λ (l : List ℕ). length l) is; bodie
 -- What stays.
 
 module _ {D : Type 0} (d : Ghosts D) where
-  stays_join : (q : ℕ) (a b c : D) → Stays d q a b → Stays d q b c → Stays d q a c
-  stays_join q a b c ab bc = record { reads = bc.reads ∙ ab.reads; leaves = λ x h. ab.leaves x (bc.leaves x h) }
-
   pub stays_on : (a b c : D) → StaysEverywhere d a b → StaysEverywhere d b c → StaysEverywhere d a c
-  stays_on a b c ab bc t q = stays_join q a b c (ab t q) (bc t q)
+  stays_on a b c ab bc t q = stays_join d q a b c (ab t q) (bc t q)
 
   -- a file that is free later was free before
   pub free_before : (a b : D) (file : ℕ) → Stays d file a b → IsFree (d.seen b) file → IsFree (d.seen a) file
@@ -84,12 +82,12 @@ module _ {D : Type 0} (d : Ghosts D) where
       pub others_more : (q : ℕ) → (Contains (take (i + 1) files) q → ⊥) → Stays d q old new
       others_more q out =
           let more = take_more files i 0 lt in
-          stays_join q old mid new
+          stays_join d q old mid new
           (others q (λ among. out (subst (λ (l : List ℕ). Contains l q) (sym more) (Contains-append_left (take i files) (get_or files i 0 ∷ []) q among))))
           (elsewhere q (λ same. out (subst (λ (l : List ℕ). Contains l q) (sym more) (subst (λ (x : ℕ). Contains (take i files ++ get_or files i 0 ∷ []) x) (sym same) (Contains-push (take i files) (get_or files i 0))))))
 
       pub others_all : (q : ℕ) → (Contains files q → ⊥) → Stays d q old new
-      others_all q out = stays_join q old mid new (others_so_far q out) (elsewhere q (λ same. out (subst (λ (x : ℕ). Contains files x) (sym same) (Contains-get_or files i 0 lt))))
+      others_all q out = stays_join d q old mid new (others_so_far q out) (elsewhere q (λ same. out (subst (λ (x : ℕ). Contains files x) (sym same) (Contains-get_or files i 0 lt))))
 
       module _ (distinct : AreDistinct files) where
         pub made_more : All (IsFresh d mid) (take i files) → IsFresh d new (get_or files i 0) → All (IsFresh d new) (take (i + 1) files)
@@ -131,7 +129,7 @@ module _ {D : Type 0} (d : Ghosts D) where
 
     -- the other files stay while all are asked for and then made
     pub others_on : ((q : ℕ) → Stays d q old mid) → ((q : ℕ) → (Contains files q → ⊥) → Stays d q mid new) → (q : ℕ) → (Contains files q → ⊥) → Stays d q old new
-    others_on stays others q out = stays_join q old mid new (stays q) (others q out)
+    others_on stays others q out = stays_join d q old mid new (stays q) (others q out)
 
     pub made_leaves : {W : Type 0} (out out_now : W) (result : Outcome) → All (IsFree (d.seen old)) files → AreFreshOr d files new result → ((q : ℕ) → (Contains files q → ⊥) → Stays d q old new) → LeavesBy d files out out_now old new result
     made_leaves out out_now (Ok done) free made others = record {

@@ -1,5 +1,5 @@
 -- The first line that is refused, from what a step over the lines found.
-use Rattle.std.proofs.Common.{◌≡◌, ◌≢◌, ℕ, ◌+◌, ◌<◌, ◌≤◌, nat_lt, nat_le, true, false, ◌||◌, cond, Some, List, [], ◌∷◌, ◌++◌, length, refl, ap, ◌∙◌, arith}
+use Rattle.std.proofs.Common.{◌≡◌, ◌≢◌, ◌⊎◌, inl, inr, ℕ, ◌+◌, ◌<◌, ◌≤◌, nat_lt, nat_le, Bool, true, false, ◌||◌, cond, Option, Some, List, [], ◌∷◌, ◌++◌, length, refl, ap, ◌∙◌, arith}
 use Rattle.std.specs.List.{onto_first}
 use Rattle.std.proofs.lemmas.Bool.Decides.{nat_tests}
 use Rattle.cells_cli.specs.Lines.{is_end, lines_of, first_refused, StartsLong}
@@ -7,6 +7,11 @@ use Rattle.cells_cli.specs.LineEnds.{lines_by}
 use Rattle.cells_cli.specs.declared.lines.LineEnd.{LineEnd}
 use Rattle.cells_cli.specs.declared.lines.LineEnd.TheVariants.{Feed, ReturnAndFeed}
 use Rattle.cells_cli.proofs.Scripts.{some_stays}
+
+-- the line that is refused is this one, or is behind it
+pub here_or_behind : (b : Bool) (n k : ℕ) (rest : Option ℕ) → cond b (Some n) rest ≡ Some k → ((b ≡ true) × (n ≡ k)) ⊎ ((b ≡ false) × (rest ≡ Some k))
+here_or_behind true n k rest h = inl (refl, cc)
+here_or_behind false n k rest h = inr (refl, h)
 
 -- a line that is given
 pub passes : (limit given : ℕ) (line : List ℕ) (lines : List (List ℕ)) → length line ≤ limit → given < 4096 → first_refused limit given (line ∷ lines) ≡ first_refused limit (given + 1) lines

@@ -20,16 +20,13 @@ use Rattle.cells_cli.specs.Report.{Asked, IsWhole, IsFront, IsReport}
 use Rattle.cells_cli.specs.Answering.{EndsAt}
 use Rattle.cells_cli.specs.Script.{lines_done}
 use Rattle.cells_cli.specs.Ups.{nothing_told}
+use Rattle.cells_cli.proofs.Refusals.{here_or_behind}
 
 -- the line that is refused is behind lines that are not
-later_some : (b : Bool) (n k : ℕ) (rest : Option ℕ) → cond b (Some n) rest ≡ Some k → ((b ≡ true) × (n ≡ k)) ⊎ ((b ≡ false) × (rest ≡ Some k))
-later_some true n k rest h = inl (refl, cc)
-later_some false n k rest h = inr (refl, h)
-
 none_before : (given : ℕ) (lines : List (List ℕ)) (k : ℕ) → first_refused BODY given lines ≡ Some k → (n : ℕ) × (k ≡ given + n + 1) × (first_refused BODY given (take n lines) ≡ None)
 none_before given [] k h = cc
 none_before given (l ∷ ls) k h =
-    elim (later_some (nat_lt BODY (length l) || nat_le LINES given) (given + 1) k (first_refused BODY (given + 1) ls) h) [
+    elim (here_or_behind (nat_lt BODY (length l) || nat_le LINES given) (given + 1) k (first_refused BODY (given + 1) ls) h) [
       | inl now ↦ (0, (let is = now.1 in omega (arith, is)), refl)
       | inr later ↦
           let rest = none_before (given + 1) ls k later.1 in (
@@ -48,6 +45,19 @@ none_first lines k h =
 -- how a run ends whose answering stopped so, or that ends at once with a status
 abbrev pub EndsWith : Status → Status → Type 0
 EndsWith own result = (result ≡ own) ⊎ ((result ≡ Memory) ⊎ (result ≡ WriteFault))
+
+-- what holds at each of these ends holds at this one
+pub by_end : (P : Status → Type 0) (own result : Status) → P own → P Memory → P WriteFault → EndsWith own result → P result
+by_end P own result at_own at_memory at_write ends = elim ends [
+  | inl e ↦ subst P (sym e) at_own
+  | inr (inl e) ↦ subst P (sym e) at_memory
+  | inr (inr e) ↦ subst P (sym e) at_write
+]
+
+-- the last line of a run, behind what was written before it, or a front of it where the sink failed
+abbrev pub IsLast : Status → Status → List ℕ → List ℕ → Type 0
+IsLast own result mid now = (result ≢ WriteFault → now ≡ mid ++ last_line result)
+    × (result ≡ WriteFault → (front : List ℕ) × ((last : Status) × ((last ≡ own) ⊎ (last ≡ Memory)) × IsPrefix front (last_line last)) × (now ≡ mid ++ front))
 
 not_write : (stop : Stop) → stop ≢ WriteStop → status_of stop ≢ WriteFault
 not_write (ScriptStop k) other h = cc
@@ -92,19 +102,11 @@ module _ (asked : Asked) (bytes : List ℕ) (own : Status) (other : own ≢ Writ
     abbrev Is : Status → Type 0
     Is status = (report : List ℕ) × IsReport asked status report × (now ≡ before ++ report)
 
-    pub reports : EndsWith own result → (result ≢ WriteFault → now ≡ mid ++ last_line result)
-        → (result ≡ WriteFault → (front : List ℕ) × ((last : Status) × ((last ≡ own) ⊎ (last ≡ Memory)) × IsPrefix front (last_line last)) × (now ≡ mid ++ front))
-        → Is result
-    reports ends told part = elim ends [
-      | inl e ↦
-          let line : now ≡ mid ++ last_line own = told (λ w. other (sym e ∙ w)) ∙ ap (λ (s : Status). mid ++ last_line s) e in
-          subst Is (sym e) (bytes ++ last_line own, whole_report asked own (bytes ++ last_line own) other whole, joined (last_line own) line)
-      | inr (inl e) ↦
-          let apart : Memory ≢ WriteFault = λ h. cc in
-          let line : now ≡ mid ++ last_line Memory = told (λ w. apart (sym e ∙ w)) ∙ ap (λ (s : Status). mid ++ last_line s) e in
-          subst Is (sym e) (bytes ++ last_line Memory, memory, joined (last_line Memory) line)
-      | inr (inr e) ↦ let p = part e in subst Is (sym e) (bytes ++ p.0, front_either p.1.0 p.0 p.1.1 p.1.2, joined p.0 p.2)
-    ]
+    pub reports : EndsWith own result → IsLast own result mid now → Is result
+    reports = by_end (λ (s : Status). IsLast own s mid now → Is s) own result
+        (λ last. (bytes ++ last_line own, whole_report asked own (bytes ++ last_line own) other whole, joined (last_line own) (last.0 other)))
+        (λ last. (bytes ++ last_line Memory, memory, joined (last_line Memory) (last.0 (λ h. cc))))
+        (λ last. (let p = last.1 refl in (bytes ++ p.0, front_either p.1.0 p.0 p.1.1 p.1.2, joined p.0 p.2)))
 
 -- a run that answered lines
 module _ (start : Start) (lines : List (List ℕ)) (bytes : List ℕ) where
@@ -132,9 +134,7 @@ module _ (start : Start) (lines : List (List ℕ)) (bytes : List ℕ) where
       let all = answers start.registry start.map (take h.0 lines) in
       (Memory, all ++ last_line Memory, (h.0, h.1, refl), (h.2.0 ++ last_line Memory, ap (λ (b : List ℕ). b ++ last_line Memory) h.2.1 ∙ append_assoc bytes h.2.0 (last_line Memory)))
 
-  pub served : (stop : Stop) (other : stop ≢ WriteStop) → IsAnswered start.registry start.map lines (Err stop) bytes → (before mid now : List ℕ) → mid ≡ before ++ bytes → (result : Status) → EndsWith (status_of stop) result
-      → (result ≢ WriteFault → now ≡ mid ++ last_line result)
-      → (result ≡ WriteFault → (front : List ℕ) × ((last : Status) × ((last ≡ status_of stop) ⊎ (last ≡ Memory)) × IsPrefix front (last_line last)) × (now ≡ mid ++ front))
+  pub served : (stop : Stop) (other : stop ≢ WriteStop) → IsAnswered start.registry start.map lines (Err stop) bytes → (before mid now : List ℕ) → mid ≡ before ++ bytes → (result : Status) → EndsWith (status_of stop) result → IsLast (status_of stop) result mid now
       → (report : List ℕ) × IsReport asked result report × (now ≡ before ++ report)
   served stop other h before mid now so_far result = reports asked bytes (status_of stop) (not_write stop other) (with_own stop other h) (with_memory stop other h) before mid now so_far result
 
@@ -160,9 +160,7 @@ only_line asked (Ok (does_lines registry)) is last once = elim once [
 ]
 only_line asked (Err why) is last once = ((elim once [ inl own ↦ inl (let e : why ≡ last = cc in sym e) | inr fault ↦ inr fault ]), refl)
 
-pub at_once : (asked : Asked) (own : Status) → own ≢ WriteFault → EndsAtOnce asked.job own → (before now : List ℕ) (result : Status) → EndsWith own result
-    → (result ≢ WriteFault → now ≡ before ++ last_line result)
-    → (result ≡ WriteFault → (front : List ℕ) × ((last : Status) × ((last ≡ own) ⊎ (last ≡ Memory)) × IsPrefix front (last_line last)) × (now ≡ before ++ front))
+pub at_once : (asked : Asked) (own : Status) → own ≢ WriteFault → EndsAtOnce asked.job own → (before now : List ℕ) (result : Status) → EndsWith own result → IsLast own result before now
     → (report : List ℕ) × IsReport asked result report × (now ≡ before ++ report)
 at_once asked own other once before now result =
     reports asked [] own other (only_line asked asked.job refl own once) (only_line asked asked.job refl Memory (inr (inr refl))) before before now (sym (append-nil before)) result
@@ -207,11 +205,7 @@ module _ (stop : Stop) (result : Status) (ends : EndsWith (status_of stop) resul
   own_read h = stop_is_read stop (is_own ReadFault h (λ e. cc) (λ e. cc))
 
   pub ends_service : EndsService result
-  ends_service = elim ends [
-    | inl own ↦ subst EndsService (sym own) (stops_service stop)
-    | inr (inl memory) ↦ subst EndsService (sym memory) tt
-    | inr (inr write) ↦ subst EndsService (sym write) tt
-  ]
+  ends_service = by_end EndsService (status_of stop) result (stops_service stop) tt tt ends
 
   own_lines : (other : Stop) → (script left : List ℕ) → EndsAt script left (Err other) → EndsAs script left (status_of other)
   own_lines (ScriptStop k) script left h = h
@@ -220,8 +214,4 @@ module _ (stop : Stop) (result : Status) (ends : EndsWith (status_of stop) resul
   own_lines MemoryStop script left h = tt
 
   pub ends_lines : (script left : List ℕ) → EndsAt script left (Err stop) → EndsAs script left result
-  ends_lines script left h = elim ends [
-    | inl own ↦ subst (EndsAs script left) (sym own) (own_lines stop script left h)
-    | inr (inl memory) ↦ subst (EndsAs script left) (sym memory) tt
-    | inr (inr write) ↦ subst (EndsAs script left) (sym write) tt
-  ]
+  ends_lines script left h = by_end (EndsAs script left) (status_of stop) result (own_lines stop script left h) tt tt ends

@@ -24,18 +24,8 @@ use Rattle.cells_cli.specs.declared.status.Status.{Status}
 use Rattle.cells_cli.specs.declared.status.Status.TheVariants.{End, Script, ReadFault, WriteFault, Memory}
 use Rattle.cells_cli.specs.declared.up.UpStop.{UpStop}
 use Rattle.cells_cli.specs.declared.up.UpStop.TheVariants.{Script as ScriptStop, ReadFault as ReadStop, WriteFault as WriteStop, Memory as MemoryStop, Cluster as ClusterStop}
-use Rattle.cells_cli.proofs.Reported.{EndsWith}
-
--- whichever lines were told of, they are some first ones
-to_first : (wanted : List Numbered) (refused : Option ℕ) (told : Telling) (status : Status) → AreTold wanted refused told status → AreFirst (numbered told.items ++ numbered_broken told.broken) wanted
-to_first wanted refused told End h = ([], ap (λ br. (numbered told.items ++ numbered_broken br) ++ []) h.1 ∙ append-nil (numbered told.items ++ []) ∙ append-nil (numbered told.items) ∙ h.2)
-to_first wanted refused told (Script line) h = ([], ap (λ br. (numbered told.items ++ numbered_broken br) ++ []) h.1 ∙ append-nil (numbered told.items ++ []) ∙ append-nil (numbered told.items) ∙ h.2)
-to_first wanted refused told ReadFault h = subst (λ (l : List Numbered). AreFirst l wanted) (sym (ap (λ br. numbered told.items ++ numbered_broken br) h.0 ∙ append-nil (numbered told.items))) h.1
-to_first wanted refused told other h = h
-
-all_written : {W : Type 0} (w : SinkGhosts W) (told : Telling) (out out_now : W) (status : Status) → status ≢ WriteFault → IsWritten w told out out_now status → WritesAll w out out_now (telling_text told)
-all_written w told out out_now WriteFault apart h = absurd (apart refl)
-all_written w told out out_now other apart h = h
+use Rattle.cells_cli.proofs.Doing.{all_written, cluster_apart, to_first}
+use Rattle.cells_cli.proofs.Reported.{EndsWith, by_end}
 
 whole_report : (tells : Bool) (wanted : List Numbered) (refused : Option ℕ) (told : Telling) (status : Status) (report : List ℕ) → status ≢ WriteFault → report ≡ telling_text told ++ last_line status → IsReportOf tells wanted refused told status report
 whole_report tells wanted refused told WriteFault report apart h = absurd (apart refl)
@@ -116,11 +106,9 @@ module _ {S W D N : Type 0} (s : SourceGhosts S) (w : SinkGhosts W) (d : DiskGho
     }
 
     pub finished : (result : Status) → EndsWith own result → (result ≢ WriteFault → WritesAll w mid now (last_line result)) → (result ≡ WriteFault → WritesFrontOf w mid now own) → Runs result
-    finished result ends told part = elim ends [
-      | inl e ↦ subst Runs (sym e) (ends_own (subst (λ st. WritesAll w mid now (last_line st)) e (told (λ h. apart (sym e ∙ h)))))
-      | inr (inl e) ↦ subst Runs (sym e) (ends_memory (subst (λ st. WritesAll w mid now (last_line st)) e (told (λ h. (let no : Memory ≡ WriteFault = sym e ∙ h in cc)))))
-      | inr (inr e) ↦ subst Runs (sym e) (ends_writing (part e))
-    ]
+    finished result =
+        by_end (λ (s : Status). (s ≢ WriteFault → WritesAll w mid now (last_line s)) → (s ≡ WriteFault → WritesFrontOf w mid now own) → Runs s) own result
+        (λ told part. ends_own (told apart)) (λ told part. ends_memory (told (λ h. cc))) (λ told part. ends_writing (part refl))
 
   -- the sink failed in a line
   pub broke_off : Ups s w d n registry script out now disk disk_now wire wire_now WriteFault → RunsUp s w d n registry script script_now out now disk disk_now wire wire_now WriteFault
@@ -175,11 +163,7 @@ module _ {S W D : Type 0} (s : SourceGhosts S) (w : SinkGhosts W) (d : DiskGhost
   fails_own (ClusterStop (Damaged file SpentEpochs)) cause = tt
 
   pub disk_fails : (stop : UpStop) (result : Status) → Caused stop → EndsWith (status_of stop) result → DiskFails d disk disk_now result
-  disk_fails stop result cause ends = elim ends [
-    | inl own ↦ subst (DiskFails d disk disk_now) (sym own) (fails_own stop cause)
-    | inr (inl memory) ↦ subst (DiskFails d disk disk_now) (sym memory) tt
-    | inr (inr write) ↦ subst (DiskFails d disk disk_now) (sym write) tt
-  ]
+  disk_fails stop result cause = by_end (DiskFails d disk disk_now) (status_of stop) result (fails_own stop cause) tt tt
 
   read_own : (stop : UpStop) → Caused stop → status_of stop ≡ ReadFault → SourceFails s script script_now
   read_own (ScriptStop line) cause h = absurd cc
@@ -194,11 +178,8 @@ module _ {S W D : Type 0} (s : SourceGhosts S) (w : SinkGhosts W) (d : DiskGhost
   read_own (ClusterStop (Damaged file SpentEpochs)) cause h = absurd cc
 
   pub read_fails : (stop : UpStop) (result : Status) → Caused stop → EndsWith (status_of stop) result → result ≡ ReadFault → SourceFails s script script_now
-  read_fails stop result cause ends is = elim ends [
-    | inl own ↦ read_own stop cause (sym own ∙ is)
-    | inr (inl memory) ↦ (let no : Memory ≡ ReadFault = sym memory ∙ is in absurd cc)
-    | inr (inr write) ↦ (let no : WriteFault ≡ ReadFault = sym write ∙ is in absurd cc)
-  ]
+  read_fails stop result cause =
+      by_end (λ (s : Status). s ≡ ReadFault → SourceFails s script script_now) (status_of stop) result (read_own stop cause) (λ h. absurd cc) (λ h. absurd cc)
 
 stops_up : (stop : UpStop) → EndsUp (status_of stop)
 stops_up (ScriptStop line) = tt
@@ -212,27 +193,15 @@ stops_up (ClusterStop (Damaged file (RefusedEntry index))) = tt
 stops_up (ClusterStop (Damaged file (LacksCell cell))) = tt
 stops_up (ClusterStop (Damaged file SpentEpochs)) = tt
 
-pub ends_up : (own result : Status) → EndsUp own → EndsWith own result → EndsUp result
-ends_up own result is ends = elim ends [
-  | inl same ↦ subst EndsUp (sym same) is
-  | inr (inl memory) ↦ subst EndsUp (sym memory) tt
-  | inr (inr write) ↦ subst EndsUp (sym write) tt
-]
-
 pub stop_ends_up : (stop : UpStop) (result : Status) → EndsWith (status_of stop) result → EndsUp result
-stop_ends_up stop result ends = ends_up (status_of stop) result (stops_up stop) ends
+stop_ends_up stop result = by_end EndsUp (status_of stop) result (stops_up stop) tt tt
 
 pub not_writing : (stop : UpStop) → stop ≢ WriteStop → status_of stop ≢ WriteFault
 not_writing (ScriptStop line) other h = cc
 not_writing ReadStop other h = cc
 not_writing WriteStop other h = other refl
 not_writing MemoryStop other h = cc
-not_writing (ClusterStop (DiskFailed file)) other h = cc
-not_writing (ClusterStop NoRoom) other h = cc
-not_writing (ClusterStop (Damaged file (NoJournal at))) other h = cc
-not_writing (ClusterStop (Damaged file (RefusedEntry index))) other h = cc
-not_writing (ClusterStop (Damaged file (LacksCell cell))) other h = cc
-not_writing (ClusterStop (Damaged file SpentEpochs)) other h = cc
+not_writing (ClusterStop error) other h = cluster_apart error h
 
 -- what was written is a report of what was asked
 upped : (lines : List (List ℕ)) (told : Telling) (status : Status) (report : List ℕ) → status ≢ WriteFault → AreTold (lines_done 0 lines) (line_refused 0 lines) told status → report ≡ telling_text told ++ last_line status → IsUpped lines status report

@@ -12,10 +12,8 @@ use Rattle.cells_script.specs.Lines.{line_of}
 use Rattle.cells_script.specs.declared.limits.TheConstants.{LINE_BYTES}
 use Rattle.cells_world.specs.Cluster.{IsReady}
 use Rattle.cells_world.specs.World.{At}
-use Rattle.cells_world.specs.declared.fault.ClusterError.TheVariants.{DiskFailed, Memory as NoRoom, Damaged}
-use Rattle.cells_world.specs.declared.fault.Damage.TheVariants.{NotAJournal as NoJournal, BadEntry as RefusedEntry, ConfigLacks as LacksCell, EpochsSpent as SpentEpochs}
-use Rattle.cells_cli.specs.Doing.{AreFirst, Does, SoFar, status_of, stop_of}
-use Rattle.cells_cli.specs.Lines.{first_refused, IsNext}
+use Rattle.cells_cli.specs.Doing.{AreFirst, Does, SoFar, status_of, status_of_cluster, stop_of}
+use Rattle.cells_cli.specs.Lines.{first_refused}
 use Rattle.cells_cli.specs.ScriptLines.{script_lines_of}
 use Rattle.cells_cli.specs.Refused.{Refuses}
 use Rattle.cells_cli.specs.Script.{Numbered, done_with, is_skipped, line_refused, lines_done, reading_behind, reading_of, reading_with, refused_with}
@@ -30,7 +28,8 @@ use Rattle.cells_cli.specs.declared.status.Status.{Status}
 use Rattle.cells_cli.specs.declared.status.Status.TheVariants.{End}
 use Rattle.cells_cli.specs.declared.up.UpStop.{UpStop}
 use Rattle.cells_cli.specs.declared.up.UpStop.TheVariants.{Script as ScriptStop, ReadFault as ReadStop, WriteFault as WriteStop, Memory as MemoryStop, Cluster as ClusterStop}
-use Rattle.cells_cli.proofs.Doing.{cluster_ended}
+use Rattle.cells_cli.proofs.Doing.{all_written, cluster_apart, cluster_ended, to_first}
+use Rattle.cells_cli.proofs.Refusals.{here_or_behind}
 use Rattle.cells_cli.proofs.Telling.{numbered_append, all_numbered_append, telling_append}
 use Rattle.cells_cli.proofs.Went.{went_on, went_nowhere}
 
@@ -183,12 +182,12 @@ module _ {W D N : Type 0} (w : SinkGhosts W) (d : DiskGhosts D) (n : WireGhosts 
       lines = λ t. first_joined does.told t (does.lines refl);
       written = written_all does.told does.written;
     }
-    ended_here (ClusterStop (DiskFailed file)) does = cluster_ended w d n tells wanted refused a c out out_now (joined does.told) does.here does.ready (went_there does.told.items does.here does.went) (λ t. first_joined does.told t (does.lines refl)) (written_all does.told does.written) (DiskFailed file)
-    ended_here (ClusterStop NoRoom) does = cluster_ended w d n tells wanted refused a c out out_now (joined does.told) does.here does.ready (went_there does.told.items does.here does.went) (λ t. first_joined does.told t (does.lines refl)) (written_all does.told does.written) NoRoom
-    ended_here (ClusterStop (Damaged file (NoJournal at))) does = cluster_ended w d n tells wanted refused a c out out_now (joined does.told) does.here does.ready (went_there does.told.items does.here does.went) (λ t. first_joined does.told t (does.lines refl)) (written_all does.told does.written) (Damaged file (NoJournal at))
-    ended_here (ClusterStop (Damaged file (RefusedEntry index))) does = cluster_ended w d n tells wanted refused a c out out_now (joined does.told) does.here does.ready (went_there does.told.items does.here does.went) (λ t. first_joined does.told t (does.lines refl)) (written_all does.told does.written) (Damaged file (RefusedEntry index))
-    ended_here (ClusterStop (Damaged file (LacksCell cell))) does = cluster_ended w d n tells wanted refused a c out out_now (joined does.told) does.here does.ready (went_there does.told.items does.here does.went) (λ t. first_joined does.told t (does.lines refl)) (written_all does.told does.written) (Damaged file (LacksCell cell))
-    ended_here (ClusterStop (Damaged file SpentEpochs)) does = cluster_ended w d n tells wanted refused a c out out_now (joined does.told) does.here does.ready (went_there does.told.items does.here does.went) (λ t. first_joined does.told t (does.lines refl)) (written_all does.told does.written) (Damaged file SpentEpochs)
+    ended_here (ClusterStop error) does =
+        let own = status_of_cluster error in
+        let here = done_with (given + 1) (reading_of text) [] in
+        cluster_ended w d n tells wanted refused a c out out_now (joined does.told) does.here does.ready (went_there does.told.items does.here does.went)
+        (λ t. first_joined does.told t (to_first here (refused_with (given + 1) (reading_of text) None) does.told own (does.lines refl)))
+        (written_all does.told (all_written w does.told mid out_now own (cluster_apart error) does.written)) error
 
   -- the lines ahead are these
   pub so_far_ahead : (given : ℕ) (ahead now : List (List ℕ)) (a b : At D N) (out mid : W) → SoFar w d n tells wanted refused given ahead a b out mid → (IsTrue tells → ahead ≡ now) → SoFar w d n tells wanted refused given now a b out mid
@@ -255,14 +254,10 @@ module _ {W D N : Type 0} (w : SinkGhosts W) (d : DiskGhosts D) (n : WireGhosts 
   }
 
 -- a line that is refused has a number behind those given
-later_some : (b : Bool) (n k : ℕ) (rest : Option ℕ) → cond b (Some n) rest ≡ Some k → ((b ≡ true) × (n ≡ k)) ⊎ ((b ≡ false) × (rest ≡ Some k))
-later_some true n k rest h = inl (refl, cc)
-later_some false n k rest h = inr (refl, h)
-
 later_than : (limit given : ℕ) (lines : List (List ℕ)) (k : ℕ) → first_refused limit given lines ≡ Some k → given < k
 later_than limit given [] k h = absurd cc
 later_than limit given (l ∷ ls) k h =
-    elim (later_some (nat_lt limit (length l) || nat_le LINES given) (given + 1) k (first_refused limit (given + 1) ls) h) [
+    elim (here_or_behind (nat_lt limit (length l) || nat_le LINES given) (given + 1) k (first_refused limit (given + 1) ls) h) [
       | inl now ↦ (let is = now.1 in omega (arith, is))
       | inr rest ↦ (let more = later_than limit (given + 1) ls k rest.1 in omega (arith, more))
     ]
@@ -282,17 +277,12 @@ over_refused given line h = either_refused (nat_lt LINE_BYTES (length line)) (na
 refused_now : (given : ℕ) (lines : List (List ℕ)) → first_refused LINE_BYTES given lines ≡ Some (given + 1) → (line_refused given lines ≡ Some (given + 1)) × (lines_done given lines ≡ [])
 refused_now given [] h = absurd cc
 refused_now given (l ∷ ls) h =
-    elim (later_some (nat_lt LINE_BYTES (length l) || nat_le LINES given) (given + 1) (given + 1) (first_refused LINE_BYTES (given + 1) ls) h) [
+    elim (here_or_behind (nat_lt LINE_BYTES (length l) || nat_le LINES given) (given + 1) (given + 1) (first_refused LINE_BYTES (given + 1) ls) h) [
       | inl now ↦ (
           let is = over_refused given l now.0 in
           (ap (λ r. refused_with (given + 1) r (line_refused (given + 1) ls)) is, ap (λ r. done_with (given + 1) r (lines_done (given + 1) ls)) is))
       | inr rest ↦ (let more = later_than LINE_BYTES (given + 1) ls (given + 1) rest.1 in absurd (omega (arith, more)))
     ]
-
--- what a reader says where it gave a line
-pub gives_next : (some : Bool) (ahead line rest : List ℕ) → some ≡ true → IsNext script_lines_of ahead some line rest → script_lines_of ahead ≡ line ∷ script_lines_of rest
-gives_next true ahead line rest t h = h
-gives_next false ahead line rest t h = absurd cc
 
 -- a reader's fault, by what it says of it
 pub refuses_ahead : (given limit : ℕ) (lines : List (List ℕ)) (fault : LineFault) → limit ≡ LINE_BYTES → Refuses fault (first_refused limit given lines)

@@ -1,6 +1,7 @@
 -- The first line of a script of which a front was read.
 use Rattle.std.proofs.Common.{◌≡◌, ◌≢◌, ℕ, ◌≤◌, ◌&&◌, true, false, cond, Bool, List, [], ◌∷◌, ◌++◌, length, take, refl, sym, ◌∙◌, ap, arith}
 use Rattle.std.specs.List.{onto_first}
+use Rattle.std.proofs.Math.Bool.{and-false}
 use Rattle.std.proofs.lemmas.Bool.Decides.{nat_tests}
 use Rattle.std.proofs.Math.Seq.{take-append_seam, take-length}
 use Rattle.cells_cli.specs.Lines.{is_end, lines_of}
@@ -12,16 +13,12 @@ abbrev pub HasNoEnd : List ℕ → Type 0
 HasNoEnd [] = Unit {0}
 HasNoEnd (b ∷ bs) = (is_end b ≡ false) × HasNoEnd bs
 
-and_false : (v : Bool) → (v && false) ≡ false
-and_false true = refl
-and_false false = refl
-
 begins_none : (p left : List ℕ) (c : ℕ) → HasNoEnd (c ∷ p) → begins_with_end ((c ∷ p) ++ left) ≡ false
 begins_none p left c none = none.0
 
 -- a byte stays where no LF follows it
 stays : (b : ℕ) (bs : List ℕ) → begins_with_end bs ≡ false → without_returns (b ∷ bs) ≡ b ∷ without_returns bs
-stays b bs other = ap (λ v. cond (is_return b && v) (without_returns bs) (b ∷ without_returns bs)) other ∙ ap (λ v. cond v (without_returns bs) (b ∷ without_returns bs)) (and_false (is_return b))
+stays b bs other = ap (λ v. cond (is_return b && v) (without_returns bs) (b ∷ without_returns bs)) other ∙ ap (λ v. cond v (without_returns bs) (b ∷ without_returns bs)) (and-false (is_return b))
 
 -- a byte that is no LF stands in front of the first line
 onto : (b : ℕ) (bs : List ℕ) → is_end b ≡ false → lines_of (b ∷ bs) ≡ onto_first b (lines_of bs)
@@ -74,7 +71,7 @@ some_stays b (c ∷ bs) =
         | true ↦ (c, without_returns bs, ap (λ v. cond (v && begins_with_end bs) (without_returns bs) (c ∷ without_returns bs)) (no_return c end))
         | false ↦ (b, without_returns (c ∷ bs), refl)
       ]
-      | false ↦ λ other. (b, without_returns (c ∷ bs), ap (λ v. cond v (without_returns (c ∷ bs)) (b ∷ without_returns (c ∷ bs))) (and_false (is_return b)))
+      | false ↦ λ other. (b, without_returns (c ∷ bs), ap (λ v. cond v (without_returns (c ∷ bs)) (b ∷ without_returns (c ∷ bs))) (and-false (is_return b)))
     ] refl
 
 -- bytes without LF, but the last one, are in the first line

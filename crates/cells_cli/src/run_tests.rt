@@ -63,10 +63,11 @@ const QUESTIONS_ANSWERS: &[u8] =
 {\"cell\":1,\"reply\":\"no_cell\"}
 ";
 
-// Three cells, and one range of each asked for.
-const CELLS: &[u8] =
+/// Three cells.
+pub const CELLS: &[u8] =
     b"[[cell]]\nid = 1\nprefix = \"cell-1-\"\nwidth = 1000\n[[cell]]\nid = 2\nprefix = \"cell-2-\"\nwidth = 500\n[[cell]]\nid = 3\nprefix = \"cell-3-\"\nwidth = 1000\n";
 
+// Ranges of these cells, one of a cell that the configuration lacks, and a list of that.
 const RANGES: &[u8] = b"{\"ask\":\"range\",\"cell\":1,\"number\":1}
 {\"ask\":\"range\",\"cell\":2,\"number\":1}
 {\"ask\":\"range\",\"cell\":1,\"number\":2}
@@ -87,14 +88,14 @@ const RANGES_ANSWERS: &[u8] =
 // What a finished `init` leaves of each file.
 const EMPTY: &[u8] = b"cells-journal-01\0";
 
-// Room for the service and three cells.
-const NODES: [u16; 4] = [0, 1, 2, 3];
+/// The files of the service and of three cells.
+pub const NODES: [u16; 4] = [0, 1, 2, 3];
 
 const PLAIN: &str = "replay";
 
 const REGISTRY: &str = "replay --registry";
 
-fn source(alloc: Global, bytes: &[u8]) -> Result<BytesSource, NoMemory> {
+pub fn source(alloc: Global, bytes: &[u8]) -> Result<BytesSource, NoMemory> {
     Ok(BytesSource::new(Text::from_slice(alloc, bytes)?))
 }
 
@@ -110,9 +111,29 @@ fn disk_of(alloc: Global) -> Result<MemoryDisk, NoMemory> {
     MemoryDisk::new(alloc, &NODES, 64, Vec::new(alloc))
 }
 
-// A wire that nothing befalls, and a clock.
-fn ends_of(alloc: Global) -> (MemoryWire, FixedClock) {
-    (MemoryWire::new(alloc, Vec::new(alloc)), FixedClock::new(0))
+/// How a run of these words ends, and what it writes. Nothing befalls its wire.
+pub fn run_over<D: Disk>(
+    alloc: Global,
+    words: &str,
+    mut config: BytesSource,
+    mut script: BytesSource,
+    mut out: BytesSink,
+    disk: &mut D,
+) -> Result<(Status, BytesSink), NoMemory> {
+    let words = words_of(alloc, words)?;
+    let mut wire = MemoryWire::new(alloc, Vec::new(alloc));
+    let mut clock = FixedClock::new(0);
+    let status = run(
+        alloc,
+        &words,
+        &mut config,
+        &mut script,
+        &mut out,
+        disk,
+        &mut wire,
+        &mut clock,
+    );
+    Ok((status, out))
 }
 
 // How a run ends whose script comes in pieces of at most so many bytes, and what it writes.
@@ -123,23 +144,10 @@ fn ran(
     script: &[u8],
     most: u16,
 ) -> Result<(Status, BytesSink), NoMemory> {
-    let words = words_of(alloc, words)?;
-    let mut config = source(alloc, config)?;
-    let mut script = source(alloc, script)?.in_pieces(most as usize + 1);
-    let mut out = BytesSink::new(alloc, 4096)?;
-    let mut disk = disk_of(alloc)?;
-    let (mut wire, mut clock) = ends_of(alloc);
-    let status = run(
-        alloc,
-        &words,
-        &mut config,
-        &mut script,
-        &mut out,
-        &mut disk,
-        &mut wire,
-        &mut clock,
-    );
-    Ok((status, out))
+    let config = source(alloc, config)?;
+    let script = source(alloc, script)?.in_pieces(most as usize + 1);
+    let out = BytesSink::new(alloc, 4096)?;
+    run_over(alloc, words, config, script, out, &mut disk_of(alloc)?)
 }
 
 #[test]
@@ -255,23 +263,13 @@ fn refuses_lines(rt: HostRuntime) -> Result<(), Fail> {
 
 #[test]
 fn names_a_fault_of_reading(rt: HostRuntime) -> Result<(), Fail> {
-    let words = words_of(rt.alloc(), REGISTRY)?;
+    let alloc = rt.alloc();
     for (config_reads, script_reads) in [(0u64, 9u64), (9, 0)] {
-        let mut config = source(rt.alloc(), CELLS)?.failing_after(config_reads);
-        let mut script = source(rt.alloc(), THREE)?.failing_after(script_reads);
-        let mut out = BytesSink::new(rt.alloc(), 4096)?;
-        let mut disk = disk_of(rt.alloc())?;
-        let (mut wire, mut clock) = ends_of(rt.alloc());
-        let status = run(
-            rt.alloc(),
-            &words,
-            &mut config,
-            &mut script,
-            &mut out,
-            &mut disk,
-            &mut wire,
-            &mut clock,
-        );
+        let config = source(alloc, CELLS)?.failing_after(config_reads);
+        let script = source(alloc, THREE)?.failing_after(script_reads);
+        let out = BytesSink::new(alloc, 4096)?;
+        let mut disk = disk_of(alloc)?;
+        let (status, out) = run_over(alloc, REGISTRY, config, script, out, &mut disk)?;
         assert_eq!(rt; status, Status::ReadFault);
         assert_eq!(rt; status.code(), 5);
         assert_eq!(rt; out.written(), b"read fault\n".as_slice());
@@ -281,25 +279,15 @@ fn names_a_fault_of_reading(rt: HostRuntime) -> Result<(), Fail> {
 
 #[test]
 fn leaves_a_front_where_writing_fails(rt: HostRuntime) -> Result<(), Fail> {
-    let words = words_of(rt.alloc(), PLAIN)?;
+    let alloc = rt.alloc();
     for passes in 0..20u64 {
-        let mut config = source(rt.alloc(), b"")?;
-        let mut script = source(rt.alloc(), THREE)?;
-        let mut out = BytesSink::new(rt.alloc(), 4096)?
+        let config = source(alloc, b"")?;
+        let script = source(alloc, THREE)?;
+        let out = BytesSink::new(alloc, 4096)?
             .in_pieces(10)
             .failing_after(passes);
-        let mut disk = disk_of(rt.alloc())?;
-        let (mut wire, mut clock) = ends_of(rt.alloc());
-        let status = run(
-            rt.alloc(),
-            &words,
-            &mut config,
-            &mut script,
-            &mut out,
-            &mut disk,
-            &mut wire,
-            &mut clock,
-        );
+        let mut disk = disk_of(alloc)?;
+        let (status, out) = run_over(alloc, PLAIN, config, script, out, &mut disk)?;
         assert_eq!(rt; status, Status::WriteFault);
         assert_eq!(rt; status.code(), 6);
         assert!(rt; THREE_ANSWERS.starts_with(out.written()));
@@ -320,22 +308,16 @@ fn installed(
     words: &str,
     disk: &mut MemoryDisk,
 ) -> Result<(Status, BytesSink), NoMemory> {
-    let words = words_of(alloc, words)?;
-    let mut config = source(alloc, CELLS)?;
-    let mut script = source(alloc, THREE)?;
-    let mut out = BytesSink::new(alloc, 4096)?;
-    let (mut wire, mut clock) = ends_of(alloc);
-    let status = run(
+    let config = source(alloc, CELLS)?;
+    let script = source(alloc, THREE)?;
+    run_over(
         alloc,
-        &words,
-        &mut config,
-        &mut script,
-        &mut out,
+        words,
+        config,
+        script,
+        BytesSink::new(alloc, 4096)?,
         disk,
-        &mut wire,
-        &mut clock,
-    );
-    Ok((status, out))
+    )
 }
 
 #[test]

@@ -1,5 +1,5 @@
 //! The command `up`: a script over the service and its cells.
-ghost use Rattle.std.specs.Prelude.{◌≡◌, ◌≤◌, ◌<◌, ◌+◌, ℕ, drop, IsTrue, [], OnOk};
+ghost use Rattle.std.specs.Prelude.{◌≡◌, ◌≤◌, ◌<◌, ◌+◌, ℕ, IsTrue, [], OnOk};
 ghost use Rattle.cell_registry.specs.Bounds.{is_registry};
 ghost use Rattle.cells_script.specs.declared.limits.TheConstants.{LINE_BYTES};
 ghost use Rattle.cells_world.specs.Cluster.{IsReady};
@@ -63,16 +63,6 @@ impl From<LineFault> for UpStop {
     }
 }
 
-// The items from a place on; none where there are not so many.
-fn from_place<T>(items: &[T], at: usize) -> &[T]
-    ensures { result.now ≡ drop at items.now }
-{
-    if at > items.len() {
-        return behind(items, items.len());
-    }
-    behind(items, at)
-}
-
 // Does a line, and tells of it.
 fn do_line<W: Sink, D: Disk, N: Wire, C: Clock>(
     alloc: Global,
@@ -106,10 +96,11 @@ fn do_line<W: Sink, D: Disk, N: Wire, C: Clock>(
             out,
         ),
         Err(error) => {
+            // Nothing is promised of how many notes and transitions a cluster has that came to an end.
             let told = tell_end(
                 alloc,
-                from_place(cluster.notes(), notes),
-                from_place(cluster.trace(), steps),
+                cluster.notes().get(notes..).unwrap_or(&[]),
+                cluster.trace().get(steps..).unwrap_or(&[]),
                 out,
             );
             stopped(told, error)

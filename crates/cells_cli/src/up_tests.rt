@@ -1,14 +1,10 @@
+use crate::run_tests::{CELLS, NODES, run_over, source};
 use crate::*;
 use cells_base::NoMemory;
-use cells_edge::{BytesSink, BytesSource, FixedClock, MemoryWire};
-use claim_types::Text;
-use disk_journal::{Disk, MemoryDisk};
+use cells_edge::BytesSink;
+use disk_journal::{Disk, FuseDisk, MemoryDisk};
 use std::alloc::Global;
 use std::test::Fail;
-
-// Three cells.
-const CELLS: &[u8] =
-    b"[[cell]]\nid = 1\nprefix = \"cell-1-\"\nwidth = 1000\n[[cell]]\nid = 2\nprefix = \"cell-2-\"\nwidth = 500\n[[cell]]\nid = 3\nprefix = \"cell-3-\"\nwidth = 1000\n";
 
 // Two cells, the second of which takes all identifiers that are left.
 const WIDE: &[u8] =
@@ -103,43 +99,29 @@ const SCRIPTS: [(&str, &[u8], &[u8], &[u8]); 15] = [
     ),
 ];
 
-const NODES: [u16; 4] = [0, 1, 2, 3];
-
-fn source(alloc: Global, bytes: &[u8]) -> Result<BytesSource, NoMemory> {
-    Ok(BytesSource::new(Text::from_slice(alloc, bytes)?))
-}
-
 // How a command of one word ends on a disk, and what it writes.
-fn ran(
+fn ran<D: Disk>(
     alloc: Global,
     word: &str,
     config: &[u8],
     script: &[u8],
-    disk: &mut MemoryDisk,
+    disk: &mut D,
 ) -> Result<(Status, BytesSink), NoMemory> {
-    let mut words = Vec::new(alloc);
-    words.push(String::from_str(alloc, word)?)?;
-    let mut config = source(alloc, config)?;
-    let mut script = source(alloc, script)?;
-    let mut out = BytesSink::new(alloc, 65_536)?;
-    let mut wire = MemoryWire::new(alloc, Vec::new(alloc));
-    let mut clock = FixedClock::new(0);
-    let status = run(
+    let config = source(alloc, config)?;
+    let script = source(alloc, script)?;
+    run_over(
         alloc,
-        &words,
-        &mut config,
-        &mut script,
-        &mut out,
+        word,
+        config,
+        script,
+        BytesSink::new(alloc, 16_384)?,
         disk,
-        &mut wire,
-        &mut clock,
-    );
-    Ok((status, out))
+    )
 }
 
 // The files of a new installation.
 fn installed(alloc: Global, config: &[u8]) -> Result<MemoryDisk, NoMemory> {
-    let mut disk = MemoryDisk::new(alloc, &NODES, 65_536, Vec::new(alloc))?;
+    let mut disk = MemoryDisk::new(alloc, &NODES, 16_384, Vec::new(alloc))?;
     let _ = ran(alloc, "init", config, b"", &mut disk)?;
     Ok(disk)
 }
@@ -212,6 +194,97 @@ fn names_what_a_file_shows(rt: HostRuntime) -> Result<(), Fail> {
         assert_eq!(rt; status, want);
         assert_eq!(rt; status.code(), code);
         assert_eq!(rt; out.written(), report);
+    }
+    Ok(())
+}
+
+// Scripts whose disk stops: behind how many calls at least, and how many calls the whole run makes. Of one change each
+// call is stopped, and of the others those that a range, a rollback or a late reply makes.
+const STOPPED: [(&str, u64, u64); 6] = [
+    ("one change", 0, 56),
+    ("a late commit", 120, 128),
+    ("the threshold", 40, 48),
+    ("a stale list", 48, 56),
+    ("ranges", 32, 39),
+    ("an attempt whose records changed", 72, 80),
+];
+
+// Whether the call that is stopped is begun, and what a crash puts for each byte that was not synced.
+const STOPS: [(bool, u64); 2] = [(false, 0), (true, 7)];
+
+// The configuration and the lines of a worked script.
+fn script_named(name: &str) -> Option<(&'static [u8], &'static [u8])> {
+    for (other, config, script, _) in SCRIPTS {
+        if other == name {
+            return Some((config, script));
+        }
+    }
+    None
+}
+
+// How a run ended whose disk stopped, what it wrote, and how an empty script ends over what a crash left.
+#[derive(Drop)]
+struct Halt {
+    status: Status,
+    out: BytesSink,
+    again: Status,
+}
+
+fn halted(
+    alloc: Global,
+    config: &[u8],
+    script: &[u8],
+    calls: u64,
+    stop: (bool, u64),
+) -> Result<Halt, NoMemory> {
+    let (begun, pick) = stop;
+    let mut disk = FuseDisk::new(installed(alloc, config)?, calls, begun);
+    let (status, out) = ran(alloc, "up", config, script, &mut disk)?;
+    let mut left = disk.crash(pick);
+    let (again, _) = ran(alloc, "up", config, b"", &mut left)?;
+    Ok(Halt { status, out, again })
+}
+
+// Whether a run ended at a fault of the disk, behind a front of the whole report, and its files are opened again.
+fn is_sound(alloc: Global, halt: &Halt, whole: &[u8]) -> Result<bool, NoMemory> {
+    let Status::DiskFault { file } = halt.status else {
+        return Ok(false);
+    };
+    let last = format!(in alloc; "disk fault {file}\n")?;
+    match halt.out.written().strip_suffix(last.as_str().as_bytes()) {
+        Some(front) => Ok(whole.starts_with(front) && halt.again == Status::End),
+        None => Ok(false),
+    }
+}
+
+// Whether each stop behind so many calls is sound.
+fn are_sound(
+    alloc: Global,
+    config: &[u8],
+    script: &[u8],
+    whole: &[u8],
+    calls: u64,
+) -> Result<bool, NoMemory> {
+    for stop in STOPS {
+        let halt = halted(alloc, config, script, calls, stop)?;
+        if !is_sound(alloc, &halt, whole)? {
+            return Ok(false);
+        }
+    }
+    Ok(true)
+}
+
+#[test]
+fn ends_at_each_fault_of_the_disk(rt: HostRuntime) -> Result<(), Fail> {
+    let alloc = rt.alloc();
+    for (name, from, calls) in STOPPED {
+        let (config, script) = script_named(name).ok_or("no such script")?;
+        let whole = halted(alloc, config, script, calls, STOPS[0])?;
+        assert_eq!(rt; whole.status, Status::End, "{name}");
+        for passed in from..calls {
+            let sound = are_sound(alloc, config, script, whole.out.written(), passed)?;
+            assert!(rt; sound, "{name}, stopped behind {passed} calls");
+        }
     }
     Ok(())
 }

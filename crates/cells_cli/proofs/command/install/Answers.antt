@@ -4,6 +4,7 @@ use Rattle.cells_cli.specs.declared.init.InitStop.TheVariants.{WriteFault}
 use Rattle.cells_cli.specs.declared.status.Status.{Status}
 use Rattle.cells_cli.specs.declared.status.Status.TheVariants.{Memory, WriteFault as WriteStatus}
 use Rattle.cells_cli.specs.Installed.{status_of}
+use Rattle.cells_cli.specs.Report.{WritesFrontOf}
 use Rattle.cells_cli.specs.Status.{last_line}
 use Rattle.cells_cli.proofs.Reported.{EndsWith}
 use Rattle.cells_cli.proofs.Installed.{fronts, stopped, all_made, ends_init, disk_fails, leaves_by, leaves_done}
@@ -34,10 +35,9 @@ returns-in-Err g c =
     let result = c.finish-in-Err.result in
     let other : stop ≢ WriteFault = search rules in
     let ends : EndsWith (status_of stop) result = subst (λ (s : Status). EndsWith s result) c.from.ensures c.finish-in-Err.ensures.ends in
-    let part : IsTrue g.W.Sink.tells → result ≡ WriteStatus → (front : List ℕ) × ((last : Status) × ((last ≡ status_of stop) ⊎ (last ≡ Memory)) × IsPrefix front (last_line last)) × (g.W.Sink.written c.finish-in-Err.new.out ≡ g.W.Sink.written c.make_files.new.out ++ front)
-    = λ w h. let p = c.finish-in-Err.ensures.part h w in (p.0, (p.1.0, subst (λ (s : Status). (p.1.0 ≡ s) ⊎ (p.1.0 ≡ Memory)) c.from.ensures p.1.1, p.1.2), p.2) in
     record {
-      report = λ lines w. let told = c.in-Err.ensures.told w in stopped c.args.files.now told.0 lines _ _ _ told.2 result stop other told.1 ends ((λ h. c.finish-in-Err.ensures.told h w), part w);
+      report = λ lines w. let told = c.in-Err.ensures.told w in stopped c.args.files.now told.0 lines _ _ _ told.2 result stop other told.1 ends
+          ((λ h. c.finish-in-Err.ensures.told h w), (λ h. subst (λ (s : Status). WritesFrontOf g.W.Sink c.make_files.new.out c.finish-in-Err.new.out s) c.from.ensures (c.finish-in-Err.ensures.part h) w));
       leaves = λ t. record {
         by_status = leaves_by g.W.Sink g.D.Disk c.args.files.now c.args.out.now c.make_files.new.out c.finish-in-Err.new.out c.args.disk.now c.make_files.new.disk stop result other (c.in-Err.ensures.leaves t) ends c.finish-in-Err.ensures.told;
         others = c.make_files.ensures.others t;

@@ -5,6 +5,7 @@ use Rattle.cells_cli.specs.Service.{start_with}
 use Rattle.cells_cli.specs.declared.replay.Stop.TheVariants.{WriteFault}
 use Rattle.cells_cli.specs.declared.status.Status.{Status}
 use Rattle.cells_cli.specs.declared.status.Status.TheVariants.{Memory, WriteFault as WriteStatus}
+use Rattle.cells_cli.specs.Report.{WritesFrontOf}
 use Rattle.cells_cli.specs.Served.{status_of}
 use Rattle.cells_cli.specs.Status.{last_line}
 use Rattle.cells_cli.proofs.Reported.{EndsWith, fronts, served, ends_lines, own_read, ends_service}
@@ -23,10 +24,9 @@ returns g c =
     let result = c.finish.result in
     let other : stop ≢ WriteFault = search rules in
     let ends : EndsWith (status_of stop) result = subst (λ (s : Status). EndsWith s result) c.from.ensures c.finish.ensures.ends in
-    let part : IsTrue g.W.Sink.tells → result ≡ WriteStatus → (front : List ℕ) × ((last : Status) × ((last ≡ status_of stop) ⊎ (last ≡ Memory)) × IsPrefix front (last_line last)) × (g.W.Sink.written c.finish.new.out ≡ g.W.Sink.written c.replay.new.out ++ front)
-    = λ w h. let p = c.finish.ensures.part h w in (p.0, (p.1.0, subst (λ (s : Status). (p.1.0 ≡ s) ⊎ (p.1.0 ≡ Memory)) c.from.ensures p.1.1, p.1.2), p.2) in
     record {
-      report = λ b w. let told = c.in-Err.ensures.told b w in served start lines told.0 stop other told.1 _ _ _ told.2 result ends (λ h. c.finish.ensures.told h w) (part w);
+      report = λ b w. let told = c.in-Err.ensures.told b w in served start lines told.0 stop other told.1 _ _ _ told.2 result ends
+          ((λ h. c.finish.ensures.told h w), (λ h. subst (λ (s : Status). WritesFrontOf g.W.Sink c.replay.new.out c.finish.new.out s) c.from.ensures (c.finish.ensures.part h) w));
       lines = λ b. ends_lines stop result ends (g.B.Source.left c.args.script.now) (g.B.Source.left c.replay.new.script) (c.in-Err.ensures.lines b);
       read = λ h. c.replay.ensures.read (c.in-Err.is ∙ ap Err (own_read stop result ends h));
       write = λ h. search rules;

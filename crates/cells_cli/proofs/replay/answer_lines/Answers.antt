@@ -9,7 +9,8 @@ use Rattle.cells_cli.specs.Refused.{Refuses}
 use Rattle.std.proofs.lemmas.Result.{err_from_is_err_and}
 use Rattle.cells_cli.specs.Lines.{lines_of, first_refused}
 use Rattle.cells_cli.specs.Service.{map_of}
-use Rattle.cells_cli.proofs.Answered.{dropped, map_more, done_more, stopped, all_done, not_given, none_refused_more, next_is, counted_is}
+use Rattle.cells_cli.proofs.Answered.{dropped, map_more, done_more, stopped, all_done, not_given, none_refused_more}
+use Rattle.cells_cli.proofs.Steps.{next_is, counted_is}
 use Rattle.cells_cli.proofs.replay.answer_lines.Goals as goal
 
 pub loop-service-preserved : goal.loop-service-preserved
@@ -22,7 +23,7 @@ loop-service-preserved g c =
     let line = c.line.result.now in
     let rest = lines_of (c.next.new.self.pending ++ g.S.Source.left c.next.new.source) in
     let counted = counted_is c.in_ok-next.field-0 c.next.new.self.given n c.if-branch.true c.in_ok-next.ensures.counted in
-    let ahead = λ (s : IsTrue g.S.Source.tells). sym (c.loop-service.invariant.ahead s) ∙ next_is c.in_ok-next.field-0 _ _ _ c.if-branch.true (c.in_ok-next.ensures.next s) ∙ ap (λ (l : List ℕ). l ∷ rest) (sym c.line.ensures) in
+    let ahead = λ (s : IsTrue g.S.Source.tells). sym (c.loop-service.invariant.ahead s) ∙ next_is lines_of c.in_ok-next.field-0 _ _ _ c.if-branch.true (c.in_ok-next.ensures.next s) ∙ ap (λ (l : List ℕ). l ∷ rest) (sym c.line.ensures) in
     let given : (n < LINES) × (length c.next.new.self.line ≤ c.loop-service.reader.limit) = c.in_ok-next.ensures.short (search rules) in
     let short : length line ≤ BODY = subst (λ k. length line ≤ k) c.loop-service.invariant.limit (subst (λ (l : List ℕ). length l ≤ c.loop-service.reader.limit) (sym c.line.ensures) given.1) in
     record {
@@ -71,7 +72,7 @@ returns-in_err-answer_line-clause-told g c s w =
     let line = c.line.result.now in
     let rest = lines_of (c.next.new.self.pending ++ g.S.Source.left c.next.new.source) in
     let counted = counted_is c.in_ok-next.field-0 c.next.new.self.given n c.if-branch.true c.in_ok-next.ensures.counted in
-    let ahead = sym (c.loop-service.invariant.ahead s) ∙ next_is c.in_ok-next.field-0 _ _ _ c.if-branch.true (c.in_ok-next.ensures.next s) ∙ ap (λ (l : List ℕ). l ∷ rest) (sym c.line.ensures) in
+    let ahead = sym (c.loop-service.invariant.ahead s) ∙ next_is lines_of c.in_ok-next.field-0 _ _ _ c.if-branch.true (c.in_ok-next.ensures.next s) ∙ ap (λ (l : List ℕ). l ∷ rest) (sym c.line.ensures) in
     let given : (n < LINES) × (length c.next.new.self.line ≤ c.loop-service.reader.limit) = c.in_ok-next.ensures.short (search rules) in
     let short : length line ≤ BODY = subst (λ k. length line ≤ k) c.loop-service.invariant.limit (subst (λ (l : List ℕ). length l ≤ c.loop-service.reader.limit) (sym c.line.ensures) given.1) in
     let more = none_refused_more lines n line rest ahead c.next.new.self.given counted (c.loop-service.invariant.none s) short given.0 in

@@ -31,5 +31,5 @@ returns-in-Err-clause-does g c =
     let before = moment c.args.cluster.now c.args.disk.now c.args.wire.now in
     let after = moment c.line.new.self c.line.new.disk c.line.new.wire in
     let off = broken_off g.W.Sink g.D.Disk g.N.Wire before after c.args.out.now c.tell_end-told.new.out g.met.D.Disk.only_now c.requires.ready
-    (record { number = c.args.number; line = c.args.line.now; notes = c.from_place.result.now; steps = c.from_place-in-Err.result.now }) c.in-Err.error c.tell_end-told.result c.tell_end-told.ensures.told in
+    (record { number = c.args.number; line = c.args.line.now; notes = c.unwrap_or.result.now; steps = c.unwrap_or-in-Err.result.now }) c.in-Err.error c.tell_end-told.result c.tell_end-told.ensures.told in
     subst (λ r. DoesLine g.W.Sink g.D.Disk g.N.Wire c.args.number c.args.line.now before after c.args.out.now c.tell_end-told.new.out r) (sym c.stopped.ensures) off

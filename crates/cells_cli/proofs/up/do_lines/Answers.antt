@@ -6,9 +6,9 @@ use Rattle.cells_cli.specs.Doing.{Does, DoesText, EndsSo, HasItsCause, HasLineCa
 use Rattle.cells_cli.specs.ScriptLines.{script_lines_of}
 use Rattle.cells_cli.specs.Script.{line_refused, lines_done}
 use Rattle.cells_cli.specs.declared.lines.TheConstants.{LINES}
-use Rattle.cells_cli.proofs.Answered.{counted_is}
 use Rattle.cells_cli.proofs.Causes.{line_cause}
-use Rattle.cells_cli.proofs.Scripted.{so_far_start, so_far_ahead, so_far_more, ended_here, ended_all, ended_between, refuses_ahead, gives_next}
+use Rattle.cells_cli.proofs.Scripted.{so_far_start, so_far_ahead, so_far_more, ended_here, ended_all, ended_between, refuses_ahead}
+use Rattle.cells_cli.proofs.Steps.{next_is, counted_is}
 use Rattle.cells_cli.proofs.up.do_lines.Goals as goal
 
 pub loop-cluster-init : goal.loop-cluster-init
@@ -45,7 +45,7 @@ loop-cluster-preserved g c =
     let number : c.given.result ≡ n + 1 = c.given.ensures ∙ counted in
     let few : n < LINES = (c.in_ok-next_script_line.ensures.short (search rules)).0 in
     let so = so_far_ahead g.W.Sink g.D.Disk g.N.Wire g.S.Source.tells wanted refused n (script_lines_of (c.loop-cluster.lines.pending ++ g.S.Source.left c.loop-cluster.script)) (text ∷ rest) before mid c.args.out.now c.loop-cluster.out c.loop-cluster.invariant.so_far
-    (λ s. gives_next c.in_ok-next_script_line.field-0 _ _ _ c.if-branch.true (c.in_ok-next_script_line.ensures.next s) ∙ ap (λ (l : List ℕ). l ∷ rest) (sym c.line.ensures)) in
+    (λ s. next_is script_lines_of c.in_ok-next_script_line.field-0 _ _ _ c.if-branch.true (c.in_ok-next_script_line.ensures.next s) ∙ ap (λ (l : List ℕ). l ∷ rest) (sym c.line.ensures)) in
     let does = subst (λ k. DoesText g.W.Sink g.D.Disk g.N.Wire k text mid after c.loop-cluster.out c.take_line.new.out (Ok tt)) number c.in_ok-take_line.ensures.does in
     let so_now = so_far_more g.W.Sink g.D.Disk g.N.Wire g.S.Source.tells wanted refused n text rest before mid after c.args.out.now c.loop-cluster.out c.take_line.new.out so few c.requires.ready.configured does in
     record {
@@ -91,7 +91,7 @@ returns-in_err-take_line-clause-does g c =
     let number : c.given.result ≡ n + 1 = c.given.ensures ∙ counted in
     let few : n < LINES = (c.in_ok-next_script_line.ensures.short (search rules)).0 in
     let so = so_far_ahead g.W.Sink g.D.Disk g.N.Wire g.S.Source.tells wanted refused n (script_lines_of (c.loop-cluster.lines.pending ++ g.S.Source.left c.loop-cluster.script)) (text ∷ rest) before mid c.args.out.now c.loop-cluster.out c.loop-cluster.invariant.so_far
-    (λ s. gives_next c.in_ok-next_script_line.field-0 _ _ _ c.if-branch.true (c.in_ok-next_script_line.ensures.next s) ∙ ap (λ (l : List ℕ). l ∷ rest) (sym c.line.ensures)) in
+    (λ s. next_is script_lines_of c.in_ok-next_script_line.field-0 _ _ _ c.if-branch.true (c.in_ok-next_script_line.ensures.next s) ∙ ap (λ (l : List ℕ). l ∷ rest) (sym c.line.ensures)) in
     let stop = c.in_err-take_line.field-0.0 in
     let numbered = subst (λ k. DoesText g.W.Sink g.D.Disk g.N.Wire k text mid after c.loop-cluster.out c.take_line.new.out c.take_line.result) number c.take_line.ensures.does in
     let does = subst (λ r. DoesText g.W.Sink g.D.Disk g.N.Wire (n + 1) text mid after c.loop-cluster.out c.take_line.new.out r) c.in_err-take_line.was numbered in

@@ -179,7 +179,7 @@ module _ {S W D : Type 0} (s : SourceGhosts S) (w : SinkGhosts W) (d : DiskGhost
 
   pub read_fails : (stop : UpStop) (result : Status) → Caused stop → EndsWith (status_of stop) result → result ≡ ReadFault → SourceFails s script script_now
   read_fails stop result cause =
-      by_end (λ (s : Status). s ≡ ReadFault → SourceFails s script script_now) (status_of stop) result (read_own stop cause) (λ h. absurd cc) (λ h. absurd cc)
+      by_end (λ (status : Status). status ≡ ReadFault → SourceFails s script script_now) (status_of stop) result (read_own stop cause) (λ h. absurd cc) (λ h. absurd cc)
 
 stops_up : (stop : UpStop) → EndsUp (status_of stop)
 stops_up (ScriptStop line) = tt

@@ -96,7 +96,7 @@ fn do_line<W: Sink, D: Disk, N: Wire, C: Clock>(
             out,
         ),
         Err(error) => {
-            // Nothing is promised of how many notes and transitions a cluster has that came to an end.
+            // No clause says that the notes of a cluster that came to an end are no fewer than they were.
             let told = tell_end(
                 alloc,
                 cluster.notes().get(notes..).unwrap_or(&[]),

@@ -4,7 +4,7 @@ ghost use Rattle.std.specs.Prelude.{◌≡◌, false, []};
 ghost use Rattle.std.specs.Io.{ReadsAtMost};
 
 use crate::{Clock, Sink, SinkFailed, Source, SourceFailed};
-use std::fs::OpenOptions;
+use std::fs::{File, OpenOptions};
 use std::io::{self, ErrorKind, Read, Write};
 use std::rt::{self, Files};
 use std::time::{SystemTime, UNIX_EPOCH};
@@ -44,16 +44,17 @@ impl<R: Read> Source for StdSource<R> {
 }
 
 /// A file that is opened by its path at the first read. Where it cannot be opened, since it is missing
-/// or otherwise, that is a fault of the read.
+/// or otherwise, that is a fault of the read. Its descriptor is above 2, so that it never takes the place of a
+/// standard stream that was closed before.
 #[derive(Drop)]
-pub struct FileSource<'a, R: Files> {
+pub struct FileSource<'a, R: Files<File = File>> {
     rt: &'a R,
     path: &'a str,
-    file: Option<R::File>,
+    file: Option<File>,
     faults: u64,
 }
 
-impl<'a, R: Files> FileSource<'a, R> {
+impl<'a, R: Files<File = File>> FileSource<'a, R> {
     pub fn new(rt: &'a R, path: &'a str) -> Self
         ensures path { result.path.now ≡ path.now }
         ensures faults { result.faults ≡ 0 }
@@ -71,7 +72,8 @@ impl<'a, R: Files> FileSource<'a, R> {
         ensures faults { self.new.faults ≡ self.old.faults }
     {
         if self.file.is_none() {
-            self.file = Some(OpenOptions::new().read(true).open(self.rt, self.path)?);
+            let opened = OpenOptions::new().read(true).open(self.rt, self.path)?;
+            self.file = Some(opened.try_clone()?);
         }
         match &mut self.file {
             Some(file) => file.read(buf),
@@ -80,7 +82,7 @@ impl<'a, R: Files> FileSource<'a, R> {
     }
 }
 
-impl<'a, R: Files> Source for FileSource<'a, R> {
+impl<'a, R: Files<File = File>> Source for FileSource<'a, R> {
     ghost tells = { false };
 
     ghost left = { λ s. [] };

@@ -56,6 +56,14 @@ same_in old new w is_in service cells sent trace notes takes = record {
   takes = is_in.takes ∙ sym takes;
 }
 
+-- an agent was put in the place of its cell's: each that a world knows of stands in the cluster still
+pub agents_put : (old new : Cluster) (w v : World) (now : CellAgent) (cell : ℕ) → now.store.cell ≡ cell → PutsOne old.cells.items now new.cells.items → ((q : ℕ) → q ≢ cell → map.get v.agents q ≡ map.get w.agents q) → IsIn old w → (q : ℕ) (x : Agent) → map.get v.agents q ≡ Some x → (a : CellAgent) × Contains new.cells.items a × (a.store.cell ≡ q)
+agents_put old new w v now cell cell_now puts beside is_in q x there = go (same_or_other nat_cmp_total nat_cmp-IsAntisymmetric q cell)
+  where
+    go : ((q ≡ cell) ⊎ (q ≢ cell)) → (a : CellAgent) × Contains new.cells.items a × (a.store.cell ≡ q)
+    go (inl same) = (now, puts.put, cell_now ∙ sym same)
+    go (inr apart) = (let was = is_in.only q x (sym (beside q apart) ∙ there) in (was.0, puts.others was.0 was.1 (λ e. apart (sym was.2 ∙ e ∙ cell_now)), was.2))
+
 -- One agent acted on its own: it keeps something else, on the same records; packets were sent and notes taken.
 module _ (old new : Cluster) (k now : CellAgent) (inside : Contains old.cells.items k) (store : now.store ≡ k.store) (puts : PutsOne old.cells.items now new.cells.items)
     (service : new.service ≡ old.service) (trace : new.trace.items ≡ old.trace.items) (takes : new.takes ≡ old.takes)
@@ -87,18 +95,11 @@ module _ (old new : Cluster) (k now : CellAgent) (inside : Contains old.cells.it
       let was = is_in.cells a there in
       record { tree = was.tree; agent = agent_there a.store.cell (λ same. apart (same ∙ sym cell_now)) ∙ was.agent }
 
-  only_now : (q : ℕ) (x : Agent) → map.get then_at.agents q ≡ Some x → (a : CellAgent) × Contains new.cells.items a × (a.store.cell ≡ q)
-  only_now q x there = go (same_or_other nat_cmp_total nat_cmp-IsAntisymmetric q cell)
-    where
-      go : ((q ≡ cell) ⊎ (q ≢ cell)) → (a : CellAgent) × Contains new.cells.items a × (a.store.cell ≡ q)
-      go (inl same) = (now, puts.put, cell_now ∙ sym same)
-      go (inr apart) = (let was = is_in.only q x (sym (agent_there q apart) ∙ there) in (was.0, puts.others was.0 was.1 (λ e. apart (sym was.2 ∙ e ∙ cell_now)), was.2))
-
   pub acted_in : IsIn new then_at
   acted_in = record {
     service = is_in.service ∙ ap (λ (s : TopologyNode). kept s.state) (sym service);
     cells = λ a there. ⊎_elim (λ same. subst (IsCellIn then_at) (sym same) is_now) (λ other. is_other a other.0 other.1) (puts.each a there);
-    only = only_now;
+    only = agents_put old new w then_at now cell cell_now puts agent_there is_in;
     sent = ap (λ all. all ++ ps) is_in.sent ∙ sym sent;
     trace = is_in.trace ∙ sym trace;
     notes = ap (λ all. all ++ ns) is_in.notes ∙ sym notes;

@@ -12,6 +12,7 @@ use Rattle.disk_journal.specs.Disk.{Image}
 use Rattle.disk_journal.specs.Entries.{Format, IsAtRest, Keeper, Stands, TouchesOnly}
 use Rattle.disk_journal.specs.Journal.{EndsAt, IsJournal, IsRefused}
 use Rattle.disk_journal.specs.Moments.{Stays}
+use Rattle.disk_journal.proofs.Settled.{stays_on}
 use Rattle.claim_service.specs.Node.{service, keeper}
 use Rattle.claim_service.specs.declared.node.TopologyNode.{TopologyNode}
 use Rattle.cell_store.specs.Opening.{IsOpened}
@@ -45,9 +46,6 @@ shows_same cell from img (ConfigLacks other) same is = is
 shows_same cell from img EpochsSpent same is = (is.0, stands_same (store cell) from img cell is.0 same is.1, is.2)
 
 module _ {D : Type 0} (g : Ghosts D) where
-  pub stays_on : (q : ℕ) (a b c : D) → Stays g q a b → Stays g q b c → Stays g q a c
-  stays_on q a b c first second = record { reads = second.reads ∙ first.reads; leaves = λ x is. first.leaves x (second.leaves x is) }
-
   -- a node whose file stays is at rest still
   rests_there : {E S : Type 0} (f : Format E S) (old new : D) (k : Keeper S) → (IsTrue g.tells → Stays g k.journal.file old new) → IsAtRest g f old k → IsAtRest g f new k
   rests_there f old new k stays rest = λ tells. (

@@ -7,6 +7,7 @@ use Rattle.std.proofs.lemmas.List.Elements.{Contains-append_left, Contains-push}
 use Rattle.std.proofs.lemmas.Option.{slice_get-map}
 use Rattle.cells_base.proofs.Finds.{find_passes, none_any, none_found}
 use Rattle.cells_base.proofs.Members.{in_map, of_map}
+use Rattle.cells_base.proofs.Truth.{not_picked}
 use Rattle.claim_types.specs.declared.cell.Cell.{Cell}
 use Rattle.claim_map.specs.Registry.{Registry, cell_of}
 use Rattle.claim_map.proofs.Found.{Contains-found}
@@ -20,33 +21,29 @@ use Rattle.cells_world.proofs.Places.{same_some}
 abbrev ids : List Cell → List ℕ
 ids cells = map (λ c. c.id) cells
 
-not_repeated : {X : Type 0} (b : Bool) (x : X) (rest : Option X) → cond b (Some x) rest ≡ None → (b ≡ false) × (rest ≡ None)
-not_repeated true x rest h = absurd cc
-not_repeated false x rest h = (refl, h)
-
 -- what stands behind the earlier cells has none of their ids
 new_ids : (earlier cells : List Cell) → repeated_id earlier cells ≡ None → (e : Cell) → Contains earlier e → (m id : ℕ) → slice_get (ids cells) m ≡ Some id → e.id ≢ id
 new_ids earlier [] none e there m id at same = absurd cc
 new_ids earlier (c ∷ cs) none e there zero id at same =
-    let free = not_repeated (list_any (λ (x : Cell). nat_eq x.id c.id) earlier) _ (repeated_id (earlier ++ c ∷ []) cs) none in
+    let free = not_picked (list_any (λ (x : Cell). nat_eq x.id c.id) earlier) _ (repeated_id (earlier ++ c ∷ []) cs) none in
     let is : e.id ≡ c.id = same ∙ sym (same_some c.id id at) in
     let both : true ≡ false = sym ((Decides-eqb e.id c.id).1 is) ∙ none_any (λ (x : Cell). nat_eq x.id c.id) earlier e free.0 there in
     cc
 new_ids earlier (c ∷ cs) none e there (suc m) id at same =
-    let free = not_repeated (list_any (λ (x : Cell). nat_eq x.id c.id) earlier) _ (repeated_id (earlier ++ c ∷ []) cs) none in
+    let free = not_picked (list_any (λ (x : Cell). nat_eq x.id c.id) earlier) _ (repeated_id (earlier ++ c ∷ []) cs) none in
     new_ids (earlier ++ c ∷ []) cs free.1 e (Contains-append_left earlier (c ∷ []) e there) m id at same
 
 apart_behind : (earlier cells : List Cell) → repeated_id earlier cells ≡ None → AreApart cells
 apart_behind earlier [] none n m id at_n at_m = absurd cc
 apart_behind earlier (c ∷ cs) none zero zero id at_n at_m = refl
 apart_behind earlier (c ∷ cs) none zero (suc m) id at_n at_m =
-    let free = not_repeated (list_any (λ (x : Cell). nat_eq x.id c.id) earlier) _ (repeated_id (earlier ++ c ∷ []) cs) none in
+    let free = not_picked (list_any (λ (x : Cell). nat_eq x.id c.id) earlier) _ (repeated_id (earlier ++ c ∷ []) cs) none in
     absurd (new_ids (earlier ++ c ∷ []) cs free.1 c (Contains-push earlier c) m id at_m (same_some c.id id at_n))
 apart_behind earlier (c ∷ cs) none (suc n) zero id at_n at_m =
-    let free = not_repeated (list_any (λ (x : Cell). nat_eq x.id c.id) earlier) _ (repeated_id (earlier ++ c ∷ []) cs) none in
+    let free = not_picked (list_any (λ (x : Cell). nat_eq x.id c.id) earlier) _ (repeated_id (earlier ++ c ∷ []) cs) none in
     absurd (new_ids (earlier ++ c ∷ []) cs free.1 c (Contains-push earlier c) n id at_n (same_some c.id id at_m))
 apart_behind earlier (c ∷ cs) none (suc n) (suc m) id at_n at_m =
-    let free = not_repeated (list_any (λ (x : Cell). nat_eq x.id c.id) earlier) _ (repeated_id (earlier ++ c ∷ []) cs) none in
+    let free = not_picked (list_any (λ (x : Cell). nat_eq x.id c.id) earlier) _ (repeated_id (earlier ++ c ∷ []) cs) none in
     ap suc (apart_behind (earlier ++ c ∷ []) cs free.1 n m id at_n at_m)
 
 -- no two cells of a configuration have one id

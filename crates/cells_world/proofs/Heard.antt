@@ -50,6 +50,7 @@ use Rattle.cells_world.specs.Packets.{address_of_reply}
 use Rattle.cells_world.specs.Post.{packets_of}
 use Rattle.cells_world.specs.World.{IsIn, IsCellIn, IsOf, IsOfEither, at as moment, Leads}
 use Rattle.cells_world.specs.declared.cluster.Cluster.{Cluster}
+use Rattle.cells_world.proofs.Acting.{agents_put}
 use Rattle.cells_world.proofs.Served.{SameBeside, steps_beside, steps_trace, kept_on_file, ready_is_of}
 
 -- a note changes nothing else
@@ -240,18 +241,11 @@ module _ {D : Type 0} (g : Ghosts D) (old : Cluster) (d e : D) (reply : Reply) (
         let other : a.store.cell ≢ cell = λ same. apart (same ∙ sym cell_now) in
         record { tree = tree_there a.store.cell other ∙ was.tree; agent = agent_there a.store.cell other ∙ was.agent }
 
-    only_now : (q : ℕ) (x : Agent) → map.get then_at.agents q ≡ Some x → (a : CellAgent) × Contains new.cells.items a × (a.store.cell ≡ q)
-    only_now q x there = go (same_or_other nat_cmp_total nat_cmp-IsAntisymmetric q cell)
-      where
-        go : ((q ≡ cell) ⊎ (q ≢ cell)) → (a : CellAgent) × Contains new.cells.items a × (a.store.cell ≡ q)
-        go (inl same) = (now, puts.put, cell_now ∙ sym same)
-        go (inr apart) = (let was = is_in.only q x (sym (agent_there q apart) ∙ there) in (was.0, puts.others was.0 was.1 (λ e. apart (sym was.2 ∙ e ∙ cell_now)), was.2))
-
     in_then : IsIn new then_at
     in_then = record {
       service = then_service ∙ is_in.service ∙ ap (λ (s : TopologyNode). kept s.state) (sym service_same);
       cells = λ a there. ⊎_elim (λ same. subst (IsCellIn then_at) (sym same) is_now) (λ other. is_other a other.0 other.1) (puts.each a there);
-      only = only_now;
+      only = agents_put old new w then_at now cell cell_now puts agent_there is_in;
       sent = ap (λ ps. ps ++ list_map packet_of h.sends) (noted_then.sent ∙ beside.sent ∙ is_in.sent) ∙ sym sent;
       trace = noted_then.trace ∙ steps_trace h.step base old.trace.items old.takes is_in.takes is_in.trace ∙ sym trace;
       notes = noted_is h.ended (with_step h.step base) ∙ ap (noted_by h.ended) (beside.notes ∙ is_in.notes) ∙ sym notes;

@@ -57,12 +57,12 @@ sent_within post k given is =
 
 -- the packet in this place is put again
 pub repeats : {N : Type 0} (n : Ghosts N) (wire_old wire_new : N) (post : Post) (k : ℕ) (s : Sent) (bytes : List ℕ) → ArePackets post → slice_get post.sent.items k ≡ Some s → bytes ≡ s.bytes →
-    (r : Result (Unit {0}) NoMemory) → OnOk r (Puts n wire_old wire_new post (record { leg = s.leg; bytes = bytes } ∷ [])) → OnOk r (RepeatsAt n wire_old wire_new post k)
+    (r : Result (Unit {0}) NoMemory) → OnOk r (Puts n wire_old wire_new post.armed.items (record { leg = s.leg; bytes = bytes } ∷ [])) → OnOk r (RepeatsAt n wire_old wire_new post k)
 repeats n wire_old wire_new post k s bytes are here same (Err e) put = tt
 repeats n wire_old wire_new post k s bytes are here same (Ok x) put = (
   packet_of s,
   mapped packet_of post.sent.items k s here,
-  subst (λ (q : WirePacket). Puts n wire_old wire_new post (q ∷ [])) (are k s here).spelled (subst (λ b. Puts n wire_old wire_new post (record { leg = s.leg; bytes = b } ∷ [])) same put),
+  subst (λ (q : WirePacket). Puts n wire_old wire_new post.armed.items (q ∷ [])) (are k s here).spelled (subst (λ b. Puts n wire_old wire_new post.armed.items (record { leg = s.leg; bytes = b } ∷ [])) same put),
 )
 
 -- the elements of what was sent

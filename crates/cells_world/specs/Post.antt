@@ -34,14 +34,14 @@ IsSentAt post place given = (p : Packet) × (slice_get (packets_of post) place �
 abbrev pub WasNotSent : Post → WirePacket → Type 0
 WasNotSent post given = (place : ℕ) (p : Packet) → slice_get (packets_of post) place ≡ Some p → spelled place p ≢ given
 
--- these packets were put on a wire that tells, but for those that are lost
-abbrev pub Puts : {N : Type 0} → Ghosts N → N → N → Post → List WirePacket → Type 0
-Puts n old new post packets = IsTrue n.tells → n.sent new ≡ n.sent old ++ let_through post.armed.items packets
+-- a wire that tells was given these packets, but for those that are armed to be lost
+abbrev pub Puts : {N : Type 0} → Ghosts N → N → N → List ℕ → List WirePacket → Type 0
+Puts n old new armed packets = IsTrue n.tells → n.sent new ≡ n.sent old ++ let_through armed packets
 
--- These packets were sent, in order: each got the next place, and was put on a wire that tells, but for those that are lost.
+-- these packets were sent, in order: each got the next place, and was put on the wire, unless it was lost
 pub record Sends {N : Type 0} (n : Ghosts N) (wire_old wire_new : N) (old new : Post) (packets : List Packet) : Type 0 where
   pub sent : packets_of new ≡ packets_of old ++ packets
-  pub put : Puts n wire_old wire_new old (spelled_from (length (packets_of old)) packets)
+  pub put : Puts n wire_old wire_new old.armed.items (spelled_from (length (packets_of old)) packets)
   pub armed : new.armed.items ≡ after_puts packets old.armed.items
 
 -- some packets were
@@ -54,7 +54,7 @@ AreRequests requests = (request : Request) → Contains requests request → IsR
 
 -- the packet of this place was put again
 abbrev pub RepeatsAt : {N : Type 0} → Ghosts N → N → N → Post → ℕ → Type 0
-RepeatsAt n old new post place = (p : Packet) × (slice_get (packets_of post) place ≡ Some p) × Puts n old new post (spelled place p ∷ [])
+RepeatsAt n old new post place = (p : Packet) × (slice_get (packets_of post) place ≡ Some p) × Puts n old new post.armed.items (spelled place p ∷ [])
 
 -- the loss of the put with this number from now on is armed too; 0 disarms all
 abbrev pub armed_with : ℕ → List ℕ → List ℕ

@@ -8,7 +8,7 @@ use Rattle.cells_script.specs.declared.line.Line.{Line}
 use Rattle.cells_script.specs.declared.line.Line.TheVariants.{Lose, Repeat}
 use Rattle.cells_world.specs.Answers.{is_tag}
 use Rattle.cells_world.specs.Packets.{spelled, spelled_from, after_puts, let_through}
-use Rattle.cells_world.specs.Post.{packets_of, armed_with}
+use Rattle.cells_world.specs.Post.{packets_of, Puts, armed_with}
 use Rattle.cells_world.specs.declared.post.Post.{Post}
 
 -- the packet in this place, if there is one
@@ -30,9 +30,9 @@ abbrev pub armed_by : Line → List ℕ → List ℕ
 armed_by (Lose number) armed = armed_with number armed
 armed_by other armed = armed
 
--- these packets are put, which the wire is given but for those that are armed to be lost; each put counts for what is armed then
+-- these packets are put, but for those that are lost; each counts for what is armed then
 pub record ArePut {N : Type 0} (n : Ghosts N) (wire_old wire_new : N) (armed armed_now : List ℕ) (packets : List WirePacket) : Type 0 where
-  pub put : IsTrue n.tells → n.sent wire_new ≡ n.sent wire_old ++ let_through armed packets
+  pub put : Puts n wire_old wire_new armed packets
   pub left : armed_now ≡ after_puts packets armed
 
 -- A line puts a packet again, if it is one that does, and then these packets that it sends, each with the next tag.

@@ -160,7 +160,7 @@ impl Post {
         bytes: &[u8],
     ) -> Result<(), NoMemory>
         ensures put { OnOk result
-            (Puts N.Wire wire.old wire.new self.old (record { leg = leg; bytes = bytes.now } ∷ [])) }
+            (Puts N.Wire wire.old wire.new self.old.armed.items (record { leg = leg; bytes = bytes.now } ∷ [])) }
         ensures handed { IsTrue N.tells → N.handed wire.new ≡ N.handed wire.old }
         ensures armed { OnOk result (self.new.armed.items ≡ after_put self.old.armed.items) }
         ensures sent { self.new.sent ≡ self.old.sent }

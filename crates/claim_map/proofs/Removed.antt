@@ -15,11 +15,11 @@ use Rattle.claim_map.specs.State.{Tree}
 use Rattle.claim_map.specs.Records.{changed_by}
 use Rattle.claim_map.specs.Claims.{continues_route, route_of, route_below, claim_of_record, claims_from, claims_of, is_among, operations_between}
 use Rattle.claim_map.specs.Classification.{is_route}
-use Rattle.claim_map.specs.Trees.{AreAscending}
+use Rattle.claim_map.specs.Trees.{AreRows, AreAscending}
 use Rattle.cells_base.proofs.Truth.{false_of_not}
 use Rattle.cells_base.proofs.Members.{here, later, of_filter, in_filter}
 use Rattle.claim_map.proofs.Claims.{stands_or_not, is_destroyed, claim_there}
-use Rattle.claim_map.proofs.Rising.{Rising, rising_filter, tree_rises}
+use Rattle.claim_map.proofs.Rising.{rising_filter, tree_rises}
 use Rattle.claim_map.proofs.Made.{MadeApart, HasSome, old_is_among, some_destroy}
 use Rattle.claim_map.proofs.Trees.{no_child}
 
@@ -28,7 +28,7 @@ none_left : {X : Type 0} (xs : List X) → ((x : X) → Contains xs x → ⊥) �
 none_left [] h = omega arith
 none_left (x ∷ xs) h = absurd (h x (here x xs))
 
-one_left : (row last : ℕ) (cs : List Create) → Rising last cs → ((c : Create) → Contains cs c → c.origin.row ≡ row) → length cs ≤ 1
+one_left : (row last : ℕ) (cs : List Create) → AreRows last cs → ((c : Create) → Contains cs c → c.origin.row ≡ row) → length cs ≤ 1
 one_left row last [] rising h = omega arith
 one_left row last (c ∷ []) rising h = omega arith
 one_left row last (c ∷ (d ∷ ds)) rising h =

@@ -8,7 +8,7 @@ use Rattle.claim_types.specs.declared.operations.Create.{Create}
 use Rattle.claim_types.specs.declared.record.Record.{Record}
 use Rattle.claim_map.specs.State.{Tree}
 use Rattle.claim_map.specs.Claims.{claim_of_record, claims_from, claims_of, is_among, operations_between}
-use Rattle.claim_map.specs.Trees.{AreAscending, AreApart}
+use Rattle.claim_map.specs.Trees.{AreRows, AreAscending, AreApart}
 use Rattle.cells_base.proofs.Truth.{false_of_not}
 use Rattle.cells_base.proofs.Members.{here_or_later, nowhere, here, later, of_filter, of_map}
 use Rattle.claim_map.proofs.Claims.{destroyed}
@@ -35,36 +35,31 @@ module _ {X : Type 0} where
   distinct_append (x ∷ xs) ys h k apart =
       (λ y is. elim (Contains-append_cases xs ys y is) [ inl old ↦ h.0 y old | inr new ↦ apart x y (here x xs) new ], distinct_append xs ys h.1 k (λ z y there is. apart z y (later x xs z there) is))
 
--- claims in the order of the records that they come from
-abbrev pub Rising : ℕ → List Create → Type 0
-Rising last [] = Unit {0}
-Rising last (c ∷ cs) = (last < c.origin.row) × Rising c.origin.row cs
-
-pub rising_above : (last : ℕ) (cs : List Create) → Rising last cs → (d : Create) → Contains cs d → last < d.origin.row
+pub rising_above : (last : ℕ) (cs : List Create) → AreRows last cs → (d : Create) → Contains cs d → last < d.origin.row
 rising_above last [] rising d is = absurd (nowhere d is)
 rising_above last (c ∷ cs) rising d is = elim (here_or_later c cs d is) [
   | inl e ↦ subst (λ (x : Create). last < x.origin.row) e rising.0
   | inr there ↦ (let beyond = rising_above c.origin.row cs rising.1 d there in let lt = rising.0 in omega (arith, beyond, lt))
 ]
 
-pub rising_lower : (a b : ℕ) (cs : List Create) → a ≤ b → Rising b cs → Rising a cs
+pub rising_lower : (a b : ℕ) (cs : List Create) → a ≤ b → AreRows b cs → AreRows a cs
 rising_lower a b [] le h = tt
 rising_lower a b (c ∷ cs) le h = let lt = h.0 in (omega (arith, le, lt), h.1)
 
-pub rising_filter : (p : Create → Bool) (last : ℕ) (cs : List Create) → Rising last cs → Rising last (filter p cs)
+pub rising_filter : (p : Create → Bool) (last : ℕ) (cs : List Create) → AreRows last cs → AreRows last (filter p cs)
 rising_filter p last [] h = tt
 rising_filter p last (c ∷ cs) h = go (p c) (rising_filter p c.origin.row cs h.1)
   where
-    go : (b : Bool) → Rising c.origin.row (filter p cs) → Rising last (cond b (c ∷ filter p cs) (filter p cs))
+    go : (b : Bool) → AreRows c.origin.row (filter p cs) → AreRows last (cond b (c ∷ filter p cs) (filter p cs))
     go true rest = (h.0, rest)
     go false rest = let lt = h.0 in rising_lower last c.origin.row (filter p cs) (omega (arith, lt)) rest
 
-pub rising_push : (last : ℕ) (cs : List Create) (c : Create) → Rising last cs → last < c.origin.row → ((d : Create) → Contains cs d → d.origin.row < c.origin.row) → Rising last (cs ++ c ∷ [])
+pub rising_push : (last : ℕ) (cs : List Create) (c : Create) → AreRows last cs → last < c.origin.row → ((d : Create) → Contains cs d → d.origin.row < c.origin.row) → AreRows last (cs ++ c ∷ [])
 rising_push last [] c h lt all = (lt, tt)
 rising_push last (d ∷ ds) c h lt all = (h.0, rising_push d.origin.row ds c h.1 (all d (here d ds)) (λ e is. all e (later d ds e is)))
 
 -- one row, one claim
-pub one_row : (last : ℕ) (cs : List Create) → Rising last cs → (c d : Create) → Contains cs c → Contains cs d → c.origin.row ≡ d.origin.row → c ≡ d
+pub one_row : (last : ℕ) (cs : List Create) → AreRows last cs → (c d : Create) → Contains cs c → Contains cs d → c.origin.row ≡ d.origin.row → c ≡ d
 one_row last [] rising c d ic id same = absurd (nowhere c ic)
 one_row last (x ∷ xs) rising c d ic id same = elim (here_or_later x xs c ic) [
   | inl e ↦ elim (here_or_later x xs d id) [ inl f ↦ sym e ∙ f | inr there ↦ (let lt = rising_above x.origin.row xs rising.1 d there in let row : x.origin.row ≡ c.origin.row = ap (λ (y : Create). y.origin.row) e in absurd (omega (arith, lt, row, same))) ]
@@ -74,7 +69,7 @@ one_row last (x ∷ xs) rising c d ic id same = elim (here_or_later x xs c ic) [
   ]
 ]
 
-pub distinct_keys : (last : ℕ) (cs : List Create) → Rising last cs → AreApart cs → Distinct (map (λ (c : Create). c.key) cs)
+pub distinct_keys : (last : ℕ) (cs : List Create) → AreRows last cs → AreApart cs → Distinct (map (λ (c : Create). c.key) cs)
 distinct_keys last [] rising apart = tt
 distinct_keys last (c ∷ cs) rising apart = (
   λ y is same.
@@ -87,7 +82,7 @@ distinct_keys last (c ∷ cs) rising apart = (
 )
 
 -- from claims to others
-module _ (before afterwards : List Create) (first : Rising 0 before) (second : Rising 0 afterwards) (apart : AreApart before)
+module _ (before afterwards : List Create) (first : AreRows 0 before) (second : AreRows 0 afterwards) (apart : AreApart before)
     (made_apart : (c d : Create) → Contains afterwards c → is_among before c ≡ false → Contains afterwards d → is_among before d ≡ false → c.key ≡ d.key → c ≡ d)
     (free : (c d : Create) → Contains (operations_between before afterwards).creates c → Contains before d → d.key ≢ c.key) where
   pub creates_distinct : Distinct (map (λ (c : Create). c.key) (operations_between before afterwards).creates)
@@ -112,7 +107,7 @@ module _ (before afterwards : List Create) (first : Rising 0 before) (second : R
       let lost = destroyed before afterwards y iy in
       free made.0 lost.0 made.1 lost.1 (lost.3 ∙ sym same ∙ sym made.2)))
 
-pub claims_rise : (m : ℕ) (e : List Create) (rs : List Record) → Rising 0 e → ((c : Create) → Contains e c → c.origin.row ≤ m) → AreAscending m rs → Rising 0 (claims_from e rs)
+pub claims_rise : (m : ℕ) (e : List Create) (rs : List Record) → AreRows 0 e → ((c : Create) → Contains e c → c.origin.row ≤ m) → AreAscending m rs → AreRows 0 (claims_from e rs)
 claims_rise m e [] rising most ascending = rising
 claims_rise m e (r ∷ rs) rising most ascending =
     let lt = ascending.0 in
@@ -121,6 +116,6 @@ claims_rise m e (r ∷ rs) rising most ascending =
     (λ c is. elim (Contains-push_cases e (claim_of_record e r) c is) [ inl old ↦ (let le = most c old in omega (arith, le, lt)) | inr same ↦ (let row : r.id ≡ c.origin.row = ap (λ (x : Create). x.origin.row) same in omega (arith, row)) ])
     ascending.1
 
-pub tree_rises : (tree : Tree) → AreAscending 0 tree.records → Rising 0 (claims_of tree)
+pub tree_rises : (tree : Tree) → AreAscending 0 tree.records → AreRows 0 (claims_of tree)
 unfolding claims_of
 tree_rises tree ascending = claims_rise 0 [] tree.records tt (λ c is. absurd (nowhere c is)) ascending

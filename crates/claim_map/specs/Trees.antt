@@ -20,6 +20,11 @@ abbrev pub AreAscending : ℕ → List Record → Type 0
 AreAscending last [] = Unit {0}
 AreAscending last (r ∷ rs) = (last < r.id) × AreAscending r.id rs
 
+-- claims stand in the order of their records
+abbrev pub AreRows : ℕ → List Create → Type 0
+AreRows last [] = Unit {0}
+AreRows last (c ∷ cs) = (last < c.origin.row) × AreRows c.origin.row cs
+
 -- each key that is claimed is within its grammar
 abbrev pub AreKeys : List Create → Type 0
 AreKeys claims = (c : Create) → Contains claims c → IsKey c.key

@@ -5,9 +5,9 @@ use Rattle.std.proofs.lemmas.List.{take-append-drop, at_drop_more, at_drop_all}
 use Rattle.claim_types.specs.declared.operations.Create.{Create}
 use Rattle.claim_types.specs.declared.operations.Operations.{Operations}
 use Rattle.claim_types.specs.declared.record.Record.{Record}
-use Rattle.claim_map.specs.Trees.{AreAscending}
+use Rattle.claim_map.specs.Trees.{AreRows, AreAscending}
 use Rattle.claim_map.specs.Claims.{route_of, claim_of_record, claims_from}
-use Rattle.record_tree.specs.Kept.{AreAbove, AreRows}
+use Rattle.record_tree.specs.Kept.{AreAbove}
 use Rattle.record_tree.specs.Fresh.{UpTo}
 use Rattle.record_tree.specs.Between.{between_renamed, between_removed}
 use Rattle.record_tree.specs.Walking.{Fits}

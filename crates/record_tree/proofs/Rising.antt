@@ -10,10 +10,10 @@ use Rattle.claim_types.specs.declared.key.Bucket.{Bucket}
 use Rattle.claim_types.specs.declared.key.Bucket.TheVariants.{OrganizationPath, Route, Address, SshKey, PagesDomain}
 use Rattle.claim_types.specs.declared.operations.Create.{Create}
 use Rattle.claim_types.specs.declared.record.Record.{Record}
-use Rattle.claim_map.specs.Trees.{AreAscending}
+use Rattle.claim_map.specs.Trees.{AreRows, AreAscending}
 use Rattle.claim_map.specs.Claims.{route_of}
 use Rattle.std.proofs.lemmas.Option.{same_Some}
-use Rattle.record_tree.specs.Kept.{AreRows, AreAbove}
+use Rattle.record_tree.specs.Kept.{AreAbove}
 use Rattle.claim_map.specs.Classification.{is_route}
 use Rattle.cells_base.proofs.Truth.{not_true}
 

@@ -2,9 +2,8 @@
 use Rattle.std.specs.Prelude.{ℕ, List}
 use Rattle.claim_types.specs.declared.operations.Create.{Create}
 use Rattle.claim_types.specs.declared.record.Record.{Record}
-use Rattle.claim_map.specs.Trees.{AreAscending}
+use Rattle.claim_map.specs.Trees.{AreRows, AreAscending}
 use Rattle.record_tree.specs.Fresh.{UpTo}
-use Rattle.record_tree.specs.Kept.{AreRows}
 use Rattle.record_tree.specs.Moved.{Moved}
 
 -- claims in order, and the records ahead past them

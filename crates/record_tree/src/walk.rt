@@ -1,11 +1,11 @@
 //! What a rename creates and destroys, in one walk over the records behind its record.
 ghost use Rattle.std.specs.Prelude.{◌≡◌, ◌≢◌, ◌+◌, ◌<◌, ◌≤◌, length, map, drop, take, slice_index_or, IfOk, OnOk, Some};
 ghost use Rattle.std.specs.Char.{to_ascii_lowercase};
-ghost use Rattle.claim_map.specs.Trees.{AreAscending};
+ghost use Rattle.claim_map.specs.Trees.{AreRows, AreAscending};
 ghost use Rattle.claim_map.specs.Records.{renamed as with_name};
 ghost use Rattle.claim_map.specs.Claims.{route_of, claims_from, operations_between};
 ghost use Rattle.record_tree.specs.Answer.{claim_at as the_claim};
-ghost use Rattle.record_tree.specs.Kept.{AreAbove, AreRows};
+ghost use Rattle.record_tree.specs.Kept.{AreAbove};
 ghost use Rattle.record_tree.specs.Between.{between_renamed};
 ghost use Rattle.record_tree.specs.Walking.{Fits};
 ghost use Rattle.claim_types.specs.declared.record.Record.{Record};

@@ -1,7 +1,6 @@
 -- What a report says of files that were made, by how the making stopped.
-use Rattle.std.proofs.Common.{◌≡◌, ◌≢◌, ◌⊎◌, ℕ, ◌≤◌, List, ◌++◌, length, take, Ok, Err, append_assoc, inl, inr, refl, sym, ◌∙◌, ap, subst, arith}
+use Rattle.std.proofs.Common.{◌≡◌, ◌≢◌, ℕ, ◌≤◌, List, ◌++◌, length, take, Ok, Err, append_assoc, refl, sym, ◌∙◌, ap, subst, arith}
 use Rattle.std.proofs.lemmas.List.{take_all}
-use Rattle.cells_edge.specs.Edge.{IsPrefix}
 use Rattle.cells_edge.specs.Streams.{WritesAll}
 use Rattle.cells_edge.specs.declared.sink.Sink.{Ghosts as SinkGhosts}
 use Rattle.disk_journal.specs.declared.disk.Disk.{Ghosts as DiskGhosts}

@@ -1,5 +1,5 @@
 -- What a report says, by how its answering stopped.
-use Rattle.std.proofs.Common.{◌≡◌, ◌≢◌, ◌⊎◌, inl, inr, ℕ, suc, ◌+◌, ◌-◌, ◌||◌, Bool, true, false, cond, nat_lt, nat_le, List, [], ◌∷◌, ◌++◌, take, length, Option, Some, None, Result, Ok, Err, append_assoc, refl, sym, ◌∙◌, ap, subst, arith}
+use Rattle.std.proofs.Common.{◌≡◌, ◌≢◌, ◌⊎◌, inl, inr, ℕ, suc, ◌+◌, ◌-◌, ◌||◌, cond, nat_lt, nat_le, List, [], ◌∷◌, ◌++◌, take, length, Some, None, Result, Ok, Err, append_assoc, refl, sym, ◌∙◌, ap, subst, arith}
 use Rattle.std.proofs.lemmas.List.{append-nil}
 use Rattle.cells_edge.specs.Edge.{IsPrefix}
 use Rattle.claim_types.specs.declared.limits.TheConstants.{BODY}

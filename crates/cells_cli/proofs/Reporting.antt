@@ -1,5 +1,5 @@
 -- The report of a run with a script, from what was told and how its last line was written.
-use Rattle.std.proofs.Common.{◌≡◌, ◌≢◌, ◌⊎◌, inl, inr, ℕ, Bool, IsTrue, List, [], ◌++◌, Option, Result, Ok, Err, append_assoc, refl, sym, ◌∙◌, ap, subst}
+use Rattle.std.proofs.Common.{◌≡◌, ◌≢◌, ◌⊎◌, inl, inr, ℕ, Bool, IsTrue, List, ◌++◌, Option, Result, Ok, Err, append_assoc, refl, sym, ◌∙◌, ap, subst, arith}
 use Rattle.std.proofs.lemmas.List.{append-nil}
 use Rattle.cells_edge.specs.Streams.{SourceFails, WritesAll}
 use Rattle.cells_edge.specs.declared.sink.Sink.{Ghosts as SinkGhosts}
@@ -12,13 +12,13 @@ use Rattle.cells_world.specs.declared.fault.Damage.TheVariants.{NotAJournal as N
 use Rattle.cells_cli.specs.Config.{Job, Configures, does_lines, status_of_config}
 use Rattle.cells_cli.specs.declared.config.ConfigFault.{ConfigFault}
 use Rattle.cells_cli.specs.declared.config.ConfigFault.TheVariants.{Read, Long, Refused, NoSuchCell, Memory as NoSpace}
-use Rattle.cells_cli.specs.Doing.{AreFirst, AreTold, HasItsCause, IsWritten, status_of}
+use Rattle.cells_cli.specs.Doing.{AreTold, HasItsCause, IsWritten, status_of}
 use Rattle.cells_cli.specs.Installed.{DiskFails}
 use Rattle.cells_cli.specs.ScriptLines.{script_lines_of}
 use Rattle.cells_cli.specs.Report.{IsReport, WritesFrontOf}
 use Rattle.cells_cli.specs.Script.{Numbered, line_refused, lines_done}
 use Rattle.cells_cli.specs.Status.{last_line}
-use Rattle.cells_cli.specs.Told.{Telling, numbered, numbered_broken, telling_text}
+use Rattle.cells_cli.specs.Told.{Telling, telling_text}
 use Rattle.cells_cli.specs.Ups.{EndsUp, EndsUpAt, IsDamaged, IsReportOf, IsUpped, OpensSo, RunsUp, Traces, Ups, WhereOpened, nothing_told}
 use Rattle.cells_cli.specs.declared.status.Status.{Status}
 use Rattle.cells_cli.specs.declared.status.Status.TheVariants.{End, Script, ReadFault, WriteFault, Memory}
@@ -31,13 +31,49 @@ whole_report : (tells : Bool) (wanted : List Numbered) (refused : Option ℕ) (t
 whole_report tells wanted refused told WriteFault report apart h = absurd (apart refl)
 whole_report tells wanted refused told other report apart h = h
 
-module _ {D N : Type 0} (d : DiskGhosts D) (n : WireGhosts N) (registry : Registry) (world : Rattle.claim_laws.specs.World.World) (told : Telling) (disk_now : D) (wire wire_now : N) where
+module _ {D N : Type 0} (d : DiskGhosts D) (n : WireGhosts N) (registry : Registry) (world : Rattle.claim_laws.specs.World.World) (told : Telling) (disk_open disk_now : D) (wire wire_now : N) where
   -- of a run that ended for want of memory, or at a fault of writing, less is said
-  less_in_memory : (status : Status) → Traces d n registry world told.items disk_now wire wire_now status → Traces d n registry world told.items disk_now wire wire_now Memory
-  less_in_memory status t = record { opened = t.opened; again = t.again; events = t.events; of_items = t.of_items; trace = t.trace; legal = t.legal; replayed = t.replayed; handed = λ h. absurd h; stands = λ h. absurd h }
+  less_in_memory : (status : Status) → Traces d n registry world told disk_open disk_now wire wire_now status → Traces d n registry world told disk_open disk_now wire wire_now Memory
+  less_in_memory status t = record {
+    opened = t.opened;
+    again = t.again;
+    fresh = t.fresh;
+    events = t.events;
+    disk_then = t.disk_then;
+    wire_then = t.wire_then;
+    armed_then = t.armed_then;
+    of_items = t.of_items;
+    trace = t.trace;
+    legal = t.legal;
+    replayed = t.replayed;
+    handed = t.handed;
+    moments = t.moments;
+    stands = t.stands;
+    later = t.later;
+    between = λ h. absurd h;
+    breaks = t.breaks;
+  }
 
-  less_in_writing : (status : Status) → Traces d n registry world told.items disk_now wire wire_now status → Traces d n registry world told.items disk_now wire wire_now WriteFault
-  less_in_writing status t = record { opened = t.opened; again = t.again; events = t.events; of_items = t.of_items; trace = t.trace; legal = t.legal; replayed = t.replayed; handed = λ h. absurd h; stands = λ h. absurd h }
+  less_in_writing : (status : Status) → Traces d n registry world told disk_open disk_now wire wire_now status → Traces d n registry world told disk_open disk_now wire wire_now WriteFault
+  less_in_writing status t = record {
+    opened = t.opened;
+    again = t.again;
+    fresh = t.fresh;
+    events = t.events;
+    disk_then = t.disk_then;
+    wire_then = t.wire_then;
+    armed_then = t.armed_then;
+    of_items = t.of_items;
+    trace = t.trace;
+    legal = t.legal;
+    replayed = t.replayed;
+    handed = t.handed;
+    moments = t.moments;
+    stands = t.stands;
+    later = t.later;
+    between = λ h. absurd h;
+    breaks = t.breaks;
+  }
 
   either : (status : Status) (T U : Type 0) → (T → U) → WhereOpened status told T → (told ≡ nothing_told) ⊎ U
   either End T U f h = inr (f h)
@@ -66,6 +102,8 @@ module _ {S W D N : Type 0} (s : SourceGhosts S) (w : SinkGhosts W) (d : DiskGho
       told = ups.told;
       lines = ups.lines;
       report = λ t. (telling_text ups.told ++ last_line own, whole_report s.tells wanted refused ups.told own (telling_text ups.told ++ last_line own) apart refl, behind (last_line own) all t);
+      disk_open = ups.disk_open;
+      opened_first = ups.opened_first;
       traces = ups.traces;
       read = read;
       damage = damage;
@@ -76,7 +114,9 @@ module _ {S W D N : Type 0} (s : SourceGhosts S) (w : SinkGhosts W) (d : DiskGho
       told = ups.told;
       lines = λ t. to_first wanted refused ups.told own (ups.lines t);
       report = λ t. (telling_text ups.told ++ last_line Memory, refl, behind (last_line Memory) all t);
-      traces = λ tells still start world order configured is_of. either d n registry world ups.told disk_now wire wire_now own _ _ (less_in_memory d n registry world ups.told disk_now wire wire_now own) (ups.traces tells still start world order configured is_of);
+      disk_open = ups.disk_open;
+      opened_first = ups.opened_first;
+      traces = λ tells still start world order configured is_of. either d n registry world ups.told ups.disk_open disk_now wire wire_now own _ _ (less_in_memory d n registry world ups.told ups.disk_open disk_now wire wire_now own) (ups.traces tells still start world order configured is_of);
       read = λ t. tt;
       damage = tt;
     }
@@ -100,7 +140,9 @@ module _ {S W D N : Type 0} (s : SourceGhosts S) (w : SinkGhosts W) (d : DiskGho
             (p.1.0, last_apart p.1.0 p.1.1, (λ t. last_told p.1.0 p.1.1 t), (p.1.2.0, ap (λ (x : List ℕ). telling_text ups.told ++ x) p.1.2.1 ∙ sym (append_assoc (telling_text ups.told) p.0 p.1.2.0))),
             p.2 ∙ ap (λ (x : List ℕ). x ++ p.0) (before t) ∙ append_assoc (w.written out) (telling_text ups.told) p.0,
           ));
-      traces = λ tells still start world order configured is_of. either d n registry world ups.told disk_now wire wire_now own _ _ (less_in_writing d n registry world ups.told disk_now wire wire_now own) (ups.traces tells still start world order configured is_of);
+      disk_open = ups.disk_open;
+      opened_first = ups.opened_first;
+      traces = λ tells still start world order configured is_of. either d n registry world ups.told ups.disk_open disk_now wire wire_now own _ _ (less_in_writing d n registry world ups.told ups.disk_open disk_now wire wire_now own) (ups.traces tells still start world order configured is_of);
       read = λ t. tt;
       damage = tt;
     }
@@ -116,6 +158,8 @@ module _ {S W D N : Type 0} (s : SourceGhosts S) (w : SinkGhosts W) (d : DiskGho
     told = ups.told;
     lines = ups.lines;
     report = λ t. (let p = ups.written t in (p.0, (Memory, (λ h. cc), ups.lines, (p.1.0 ++ last_line Memory, ap (λ (x : List ℕ). x ++ last_line Memory) p.1.1 ∙ append_assoc p.0 p.1.0 (last_line Memory))), p.2));
+    disk_open = ups.disk_open;
+    opened_first = ups.opened_first;
     traces = ups.traces;
     read = λ t. tt;
     damage = tt;
@@ -219,7 +263,7 @@ is_report registry script told tells t other report h is = (told, h, is)
 module _ {S W D N : Type 0} (s : SourceGhosts S) (w : SinkGhosts W) (d : DiskGhosts D) (n : WireGhosts N) (registry : Registry) (script : S) (out now : W) (disk : D) (wire : N) where
   none_told : (own : Status) → AreTold (lines_done 0 (script_lines_of (s.left script))) (line_refused 0 (script_lines_of (s.left script))) nothing_told own → IsWritten w nothing_told out out own
       → ((T : Type 0) → WhereOpened own nothing_told T) → Ups s w d n registry script out out disk disk wire wire own
-  none_told own lines written where_none = record { told = nothing_told; lines = λ _. lines; written = written; traces = λ a b e f g h j. where_none _ }
+  none_told own lines written where_none = record { told = nothing_told; lines = λ _. lines; written = written; disk_open = disk; opened_first = omega arith; traces = λ a b e f g h j. where_none _ }
 
   pub config_fails : (fault : ConfigFault) (job : Result Job Status) → Configures (Err fault) job → job ≡ Ok (does_lines registry) → (result : Status) → EndsWith (status_of_config fault) result
       → (result ≢ WriteFault → WritesAll w out now (last_line result)) → (result ≡ WriteFault → WritesFrontOf w out now (status_of_config fault)) → RunsUp s w d n registry script script out now disk disk wire wire result

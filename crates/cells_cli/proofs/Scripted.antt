@@ -1,5 +1,5 @@
 -- The lines of a script, done one after another.
-use Rattle.std.proofs.Common.{◌≡◌, ◌⊎◌, inl, inr, ◌||◌, ℕ, ◌+◌, ◌<◌, Bool, true, false, cond, nat_lt, nat_le, IsTrue, List, [], ◌∷◌, ◌++◌, length, Option, Some, None, refl, sym, ◌∙◌, ap, subst, append_assoc, arith}
+use Rattle.std.proofs.Common.{◌≡◌, inl, inr, ◌||◌, ℕ, ◌+◌, ◌<◌, Bool, true, false, cond, nat_lt, nat_le, IsTrue, List, [], ◌∷◌, ◌++◌, length, Option, Some, None, refl, sym, ◌∙◌, ap, subst, append_assoc, arith}
 use Rattle.std.proofs.lemmas.Bool.Decides.{nat_tests}
 use Rattle.std.proofs.lemmas.List.{append-nil}
 use Rattle.cells_edge.specs.Streams.{WritesAll, WritesFront}
@@ -14,7 +14,6 @@ use Rattle.cells_world.specs.Cluster.{IsReady}
 use Rattle.cells_world.specs.World.{At}
 use Rattle.cells_cli.specs.Doing.{AreFirst, Does, SoFar, status_of, status_of_cluster, stop_of}
 use Rattle.cells_cli.specs.Lines.{first_refused}
-use Rattle.cells_cli.specs.ScriptLines.{script_lines_of}
 use Rattle.cells_cli.specs.Refused.{Refuses}
 use Rattle.cells_cli.specs.Script.{Numbered, done_with, is_skipped, line_refused, lines_done, reading_behind, reading_of, reading_with, refused_with}
 use Rattle.cells_cli.specs.Told.{Item, Telling, broken_text, items_text, numbered, numbered_broken, telling_text}
@@ -144,6 +143,8 @@ module _ {W D N : Type 0} (w : SinkGhosts W) (d : DiskGhosts D) (n : WireGhosts 
           ready = does.ready;
           went = went_there does.told.items does.here does.went;
           ends = does.ends;
+          breaks = does.breaks;
+          later = does.later;
           lines = λ t. (sym (refuses_at t) ∙ here.1, lines.1, numbered_append so.items does.told.items ∙ ap (λ (l : List Numbered). numbered so.items ++ l) (lines.2 ∙ here.0) ∙ lines_at t);
           written = written_all does.told does.written;
         }
@@ -157,6 +158,8 @@ module _ {W D N : Type 0} (w : SinkGhosts W) (d : DiskGhosts D) (n : WireGhosts 
           ready = does.ready;
           went = went_there does.told.items does.here does.went;
           ends = does.ends;
+          breaks = does.breaks;
+          later = does.later;
           lines = λ t. (
             lines.0,
             subst (λ (l : List Numbered). AreFirst l wanted) (sym (numbered_append so.items does.told.items))
@@ -170,6 +173,8 @@ module _ {W D N : Type 0} (w : SinkGhosts W) (d : DiskGhosts D) (n : WireGhosts 
       ready = does.ready;
       went = went_there does.told.items does.here does.went;
       ends = does.ends;
+      breaks = does.breaks;
+      later = does.later;
       lines = λ t. first_joined does.told t (does.lines refl);
       written = written_front does.told does.written;
     }
@@ -179,6 +184,8 @@ module _ {W D N : Type 0} (w : SinkGhosts W) (d : DiskGhosts D) (n : WireGhosts 
       ready = does.ready;
       went = went_there does.told.items does.here does.went;
       ends = does.ends;
+      breaks = does.breaks;
+      later = does.later;
       lines = λ t. first_joined does.told t (does.lines refl);
       written = written_all does.told does.written;
     }
@@ -187,7 +194,7 @@ module _ {W D N : Type 0} (w : SinkGhosts W) (d : DiskGhosts D) (n : WireGhosts 
         let here = done_with (given + 1) (reading_of text) [] in
         cluster_ended w d n tells wanted refused a c out out_now (joined does.told) does.here does.ready (went_there does.told.items does.here does.went)
         (λ t. first_joined does.told t (to_first here (refused_with (given + 1) (reading_of text) None) does.told own (does.lines refl)))
-        (written_all does.told (all_written w does.told mid out_now own (cluster_apart error) does.written)) error
+        (written_all does.told (all_written w does.told mid out_now own (cluster_apart error) does.written)) does.breaks does.later error
 
   -- the lines ahead are these
   pub so_far_ahead : (given : ℕ) (ahead now : List (List ℕ)) (a b : At D N) (out mid : W) → SoFar w d n tells wanted refused given ahead a b out mid → (IsTrue tells → ahead ≡ now) → SoFar w d n tells wanted refused given now a b out mid
@@ -207,6 +214,8 @@ module _ {W D N : Type 0} (w : SinkGhosts W) (d : DiskGhosts D) (n : WireGhosts 
     ready = ready;
     went = so.went;
     ends = λ _. refl;
+    breaks = λ broken is. absurd cc;
+    later = omega arith;
     lines = λ t. (
       sym (so.refuses t) ∙ ap (line_refused given) (none t),
       refl,
@@ -223,6 +232,8 @@ module _ {W D N : Type 0} (w : SinkGhosts W) (d : DiskGhosts D) (n : WireGhosts 
     ready = ready;
     went = so.went;
     ends = λ _. refl;
+    breaks = λ broken is. absurd cc;
+    later = omega arith;
     lines = λ t. (
       sym (so.refuses t) ∙ (why t).0,
       refl,
@@ -236,6 +247,8 @@ module _ {W D N : Type 0} (w : SinkGhosts W) (d : DiskGhosts D) (n : WireGhosts 
     ready = ready;
     went = so.went;
     ends = λ _. refl;
+    breaks = λ broken is. absurd cc;
+    later = omega arith;
     lines = λ t. (
       sym (so.refuses t) ∙ (why t).0,
       refl,
@@ -249,6 +262,8 @@ module _ {W D N : Type 0} (w : SinkGhosts W) (d : DiskGhosts D) (n : WireGhosts 
     ready = ready;
     went = so.went;
     ends = λ _. refl;
+    breaks = λ broken is. absurd cc;
+    later = omega arith;
     lines = λ t. (refl, (lines_done given ahead, so.lines t));
     written = λ t. so.written t ∙ ap (λ (x : List ℕ). w.written out ++ x) (sym (append-nil (items_text so.items)));
   }

@@ -1,5 +1,5 @@
 -- What doing the lines of a script comes to, by how it ended.
-use Rattle.std.specs.Prelude.{◌≡◌, ℕ, ◌+◌, Bool, true, IsTrue, List, [], ◌∷◌, ◌++◌, Option, Some, None, Result, Ok, Err}
+use Rattle.std.specs.Prelude.{◌≡◌, ℕ, ◌+◌, ◌≤◌, Bool, true, IsTrue, List, [], ◌∷◌, ◌++◌, length, drop, Option, Some, None, Result, Ok, Err}
 use Rattle.cells_edge.specs.Streams.{WritesAll, WritesFront, SinkFails, SourceFails}
 use Rattle.cells_edge.specs.declared.sink.Sink.{Ghosts as SinkGhosts}
 use Rattle.cells_edge.specs.declared.source.Source.{Ghosts as SourceGhosts}
@@ -7,13 +7,14 @@ use Rattle.cells_edge.specs.declared.wire.Wire.{Ghosts as WireGhosts}
 use Rattle.disk_journal.specs.declared.disk.Disk.{Ghosts as DiskGhosts}
 use Rattle.cells_script.specs.declared.line.Line.{Line}
 use Rattle.cells_world.specs.Cluster.{IsReady, IsEndOf}
+use Rattle.cells_world.specs.Follows.{BreaksLine}
 use Rattle.cells_world.specs.World.{At}
 use Rattle.cells_world.specs.declared.fault.ClusterError.{ClusterError}
 use Rattle.cells_world.specs.declared.fault.ClusterError.TheVariants.{DiskFailed, Memory as NoRoom, Damaged}
 use Rattle.cells_world.specs.declared.fault.Damage.TheVariants.{NotAJournal as NoJournal, BadEntry as RefusedEntry, ConfigLacks as LacksCell, EpochsSpent as SpentEpochs}
 use Rattle.cells_cli.specs.ScriptLines.{script_lines_of}
 use Rattle.cells_cli.specs.Script.{Numbered, done_with, lines_done, line_refused, reading_of, refused_with}
-use Rattle.cells_cli.specs.Told.{Item, Telling, items_text, numbered, numbered_broken, telling_text}
+use Rattle.cells_cli.specs.Told.{Broken, Item, Telling, items_text, numbered, numbered_broken, telling_text}
 use Rattle.cells_cli.specs.Went.{Went}
 use Rattle.cells_cli.specs.declared.lines.LineFault.{LineFault}
 use Rattle.cells_cli.specs.declared.lines.LineFault.TheVariants.{TooLong, TooMany, Read}
@@ -85,6 +86,13 @@ abbrev pub IsWritten : {W : Type 0} → SinkGhosts W → Telling → W → W →
 IsWritten w told out out_now WriteFault = WritesFront w out out_now (telling_text told)
 IsWritten w told out out_now other = WritesAll w out out_now (telling_text told)
 
+-- What the line leaves at which a cluster came to an end: what its error leaves, and the steps told of it are those that came behind the ones before.
+pub record BreaksIn {D N : Type 0} (d : DiskGhosts D) (n : WireGhosts N) (old : At D N) (broken : Broken) (new : At D N) : Type 0 where
+  pub now : ℕ
+  pub later : n.faults old.wire ≤ n.faults new.wire
+  pub line : BreaksLine d n now broken.line old new
+  pub steps : broken.steps ≡ drop (length old.cluster.trace.items) new.cluster.trace.items
+
 -- What doing lines came to: what is told of them, and what they brought about.
 pub record Does {W D N : Type 0} (w : SinkGhosts W) (d : DiskGhosts D) (n : WireGhosts N) (tells : Bool) (wanted : List Numbered) (refused : Option ℕ) (old new : At D N) (out out_now : W) (status : Status) : Type 0 where
   pub told : Telling
@@ -93,6 +101,8 @@ pub record Does {W D N : Type 0} (w : SinkGhosts W) (d : DiskGhosts D) (n : Wire
   pub ready : IsReady d here.disk here.cluster
   pub went : Went d n old told.items here
   pub ends : IsBetween status → here ≡ new
+  pub breaks : (broken : Broken) → told.broken ≡ Some broken → BreaksIn d n here broken new
+  pub later : n.faults here.wire ≤ n.faults new.wire
   pub lines : IsTrue tells → AreTold wanted refused told status
   pub written : IsWritten w told out out_now status
 

@@ -18,8 +18,9 @@
 //!
 //! `up` opens the service and the cells from their files, and does the lines of a script. What is told of each line
 //! stands in `specs/Told`, which lines are done in `specs/Script`, and what the whole comes to in `specs/Ups`: where the
-//! disk does not fail, the transitions that are told are a run of legal steps from the claim map that the files stood for,
-//! and at the end the files stand for the claim map behind them.
+//! disk did not fail before the files were opened, the transitions that are told are a run of legal steps from the claim map
+//! that the files stood for, and at the end the files stand for the claim map behind them, or where the run ended in a line
+//! for the one behind them or behind one event more.
 //!
 //! The lines come as `specs/Lines` defines them, in whatever pieces the source gives its bytes, and those of
 //! a script as `specs/ScriptLines` does: there LF drops a CR in front of it.

@@ -1,5 +1,5 @@
 //! The command `up`: a script over the service and its cells.
-ghost use Rattle.std.specs.Prelude.{◌≡◌, ◌≤◌, ◌<◌, ◌+◌, ℕ, IsTrue, [], OnOk};
+ghost use Rattle.std.specs.Prelude.{◌≡◌, ◌≤◌, ◌<◌, ◌+◌, ℕ, IsTrue, [], drop, OnOk};
 ghost use Rattle.cell_registry.specs.Bounds.{is_registry};
 ghost use Rattle.cells_script.specs.declared.limits.TheConstants.{LINE_BYTES};
 ghost use Rattle.cells_world.specs.Cluster.{IsReady};
@@ -63,6 +63,13 @@ impl From<LineFault> for UpStop {
     }
 }
 
+// What stands behind so many items, nothing where there are no more.
+fn past<T>(items: &[T], count: usize) -> &[T]
+    ensures { result.now ≡ drop count items.now }
+{
+    items.get(count..).unwrap_or(&[])
+}
+
 // Does a line, and tells of it.
 fn do_line<W: Sink, D: Disk, N: Wire, C: Clock>(
     alloc: Global,
@@ -96,11 +103,10 @@ fn do_line<W: Sink, D: Disk, N: Wire, C: Clock>(
             out,
         ),
         Err(error) => {
-            // No clause says that the notes of a cluster that came to an end are no fewer than they were.
             let told = tell_end(
                 alloc,
-                cluster.notes().get(notes..).unwrap_or(&[]),
-                cluster.trace().get(steps..).unwrap_or(&[]),
+                past(cluster.notes(), notes),
+                past(cluster.trace(), steps),
                 out,
             );
             stopped(told, error)

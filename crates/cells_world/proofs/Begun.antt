@@ -1,5 +1,5 @@
 -- What the event of a line began: from the clauses of the calls to the world at the line's start.
-use Rattle.std.proofs.Common.{◌≡◌, ◌≢◌, ℕ, ◌<◌, ◌≤◌, Bool, true, false, cond, List, Option, Some, None, length, refl, sym, ◌∙◌, ap, subst, arith}
+use Rattle.std.proofs.Common.{◌≡◌, ℕ, ◌<◌, ◌≤◌, Bool, cond, Option, Some, None, length, refl, sym, ◌∙◌, ap}
 use Rattle.std.specs.Prelude.{Result, Ok, Err}
 use Rattle.std.specs.List.{Contains}
 use Rattle.std.specs.FinMap as map
@@ -10,12 +10,12 @@ use Rattle.claim_types.specs.declared.message.Request.TheVariants.{Begin}
 use Rattle.claim_types.specs.declared.record.Change.{Change}
 use Rattle.claim_types.specs.declared.rule.Rule.{Rule}
 use Rattle.claim_map.specs.State.{Tree, tree_of}
-use Rattle.claim_laws.specs.Nodes.{Agent, Asked, ask_change}
+use Rattle.claim_laws.specs.Nodes.{Agent, Asked}
 use Rattle.claim_laws.specs.World.{World}
 use Rattle.cell_store.specs.Store.{stored}
 use Rattle.reconciler.specs.Agent.{kept_by, begin_of}
 use Rattle.reconciler.specs.declared.agent.CellAgent.{CellAgent}
-use Rattle.cells_script.specs.declared.answer.Answer.TheVariants.{NoCell, NoRule, Refused, Waiting}
+use Rattle.cells_script.specs.declared.answer.Answer.TheVariants.{NoCell, Refused, Waiting}
 use Rattle.cells_script.specs.declared.line.Line.{Line}
 use Rattle.cells_script.specs.declared.line.Line.TheVariants.{CreateOrganization, CreateUser, CreateTopGroup, CreateGroup, CreateProject, CreateKey, CreateAddress, CreateDomain, Rename, Remove, Range as RangeLine, Reconcile, Verify, ClassifyFirst, ClassifyCell, ClassifySession, ClassifyClaim, ClassifyPath, Route, Lose, Repeat, Wait, RestartService, Restart}
 use Rattle.cells_world.specs.Answers.{begun_by, begun_by_cell, begun_by_request, begun_change, begun_of, begun_on_wire, begun_range, begun_reconcile, begun_wanted, is_zero}
@@ -23,7 +23,7 @@ use Rattle.cells_world.specs.Lines.{cell_of_change}
 use Rattle.cells_world.specs.Wanted.{change_wanted}
 use Rattle.cells_world.specs.World.{IsIn}
 use Rattle.cells_world.specs.declared.answer.Begun.{Begun}
-use Rattle.cells_world.specs.declared.answer.Begun.TheVariants.{Told, RangeAsked, Reconciles}
+use Rattle.cells_world.specs.declared.answer.Begun.TheVariants.{Told, RangeAsked}
 use Rattle.cells_world.specs.declared.cluster.Cluster.{Cluster}
 
 -- the agent of a cell, as the world has it

@@ -1,8 +1,8 @@
 -- What is left where hand-overs came to an end by an error.
-use Rattle.std.proofs.Common.{◌≡◌, inl, inr, ⊎_elim, ℕ, ◌+◌, ◌≤◌, IsTrue, List, [], ◌∷◌, ◌++◌, length, Some, refl, sym, ◌∙◌, ap, subst, append_assoc, arith}
+use Rattle.std.proofs.Common.{◌≡◌, inl, inr, ⊎_elim, ℕ, ◌+◌, IsTrue, List, [], ◌∷◌, ◌++◌, Some, refl, sym, ◌∙◌, ap, subst, append_assoc, length-append, arith}
 use Rattle.std.specs.Prelude.{Result, Ok, Err, OnErr}
 use Rattle.std.proofs.lemmas.List.{append-nil}
-use Rattle.std.specs.List.{AllByRecursion, slice_get}
+use Rattle.std.specs.List.{slice_get}
 use Rattle.disk_journal.specs.declared.disk.Disk.{Ghosts}
 use Rattle.disk_journal.specs.Disk.{Image, IsImage}
 use Rattle.disk_journal.specs.Moments.{LeavesOnly}
@@ -13,7 +13,6 @@ use Rattle.claim_map.proofs.Configured.{wide_of}
 use Rattle.claim_map.specs.Bounds.{AreCells}
 use Rattle.claim_map.specs.Legal.{Message}
 use Rattle.claim_map.specs.Registry.{Registry}
-use Rattle.claim_map.specs.State.{ClaimMap}
 use Rattle.claim_laws.specs.Acts.{after_message, after_packet, with_handed}
 use Rattle.claim_laws.specs.Events.{Event, hands, happens, run}
 use Rattle.claim_laws.specs.Facts.{IsInOrder, WasSent}
@@ -22,11 +21,12 @@ use Rattle.claim_laws.proofs.Law.{run-in_order}
 use Rattle.claim_laws.proofs.Service.{hands_over}
 use Rattle.cells_base.proofs.Members.{at_place}
 use Rattle.cells_world.specs.Cluster.{IsReady}
-use Rattle.cells_world.specs.Post.{packets_of, IsSentAt}
-use Rattle.cells_world.specs.World.{IsIn, IsOf, IsOfEither, IsReached, At, at as moment, IsHandOver, Goes, HandsOver, Breaks, BreaksAt, BreaksOff}
+use Rattle.cells_world.specs.OnWay.{AreGiven}
+use Rattle.cells_world.specs.Post.{IsSentAt}
+use Rattle.cells_world.specs.World.{IsIn, IsOf, IsOfEither, IsReached, At, at as moment, Goes, HandsOver, Breaks, BreaksAt, BreaksOff}
 use Rattle.cells_world.specs.declared.cluster.Cluster.{Cluster}
 use Rattle.cells_world.specs.declared.course.Course.{Course}
-use Rattle.cells_world.proofs.Going.{CountsOne, all_append, counted_in, counted_of, reached_later, reached_now, reached_sooner, run_append}
+use Rattle.cells_world.proofs.Going.{CountsOne, all_append, counted_in, counted_of, given_on, reached_later, reached_now, reached_sooner, run_append}
 use Rattle.cells_world.proofs.Served.{ready_is_of}
 
 -- what is told of an error is so of a result
@@ -34,10 +34,11 @@ pub on_err : {T E : Type 0} {P : Type 0} (r : Result T E) → P → OnErr r P
 on_err (Ok x) p = tt
 on_err (Err e) p = p
 
-module _ {D N : Type 0} (g : Ghosts D) where
+module _ {D N : Type 0} (g : Ghosts D) (n : WireGhosts N) where
   -- nothing has happened
-  pub breaks_nothing : (a c : At D N) (w : World) → OnlyNow g → IsReady g a.disk a.cluster → IsIn a.cluster w → c.disk ≡ a.disk → c.cluster.trace.items ≡ a.cluster.trace.items → Breaks g a.cluster.registry w a c []
-  breaks_nothing a c w only_now ready is_in disk trace = record {
+  pub breaks_nothing : (a c : At D N) (w : World) → OnlyNow g → IsReady g a.disk a.cluster → IsIn a.cluster w → c.disk ≡ a.disk → c.cluster.trace.items ≡ a.cluster.trace.items → (IsTrue n.tells → n.handed c.wire ≡ n.handed a.wire) →
+      Breaks g n a.cluster.registry w a c []
+  breaks_nothing a c w only_now ready is_in disk trace same = record {
     told = [];
     more = [];
     cut = refl;
@@ -46,11 +47,13 @@ module _ {D N : Type 0} (g : Ghosts D) where
     moments = subst (λ d. LeavesOnly g a.disk d (IsReached a.cluster.registry w [])) (sym disk)
         (λ tells. started g a.disk (IsReached a.cluster.registry w []) only_now (λ img is. reached_now a.cluster.registry w [] img (ready_is_of g a.disk a.cluster w ready tells is_in img is)));
     stands = λ tells img is. inl (ready_is_of g a.disk a.cluster w ready tells is_in img (subst (λ d. IsImage (g.may_leave d) img) disk is));
+    handed = λ tells. ([], same tells ∙ sym (append-nil (n.handed a.wire)), refl);
   }
 
   -- all has happened, and the call came to its end behind it
-  pub breaks_behind_all : (n : WireGhosts N) (registry : Registry) (a b c : At D N) (w : World) (es : List Event) → IsReady g b.disk b.cluster → b.cluster.registry ≡ registry → Goes g n registry w a b es → c.disk ≡ b.disk → c.cluster.trace.items ≡ b.cluster.trace.items → Breaks g registry w a c es
-  breaks_behind_all n registry a b c w es ready same goes disk trace = record {
+  pub breaks_behind_all : (registry : Registry) (a b c : At D N) (w : World) (es : List Event) → IsReady g b.disk b.cluster → b.cluster.registry ≡ registry → Goes g n registry w a b es → c.disk ≡ b.disk → c.cluster.trace.items ≡ b.cluster.trace.items → c.wire ≡ b.wire →
+      Breaks g n registry w a c es
+  breaks_behind_all registry a b c w es ready same goes disk trace wire = record {
     told = es;
     more = [];
     cut = append-nil es;
@@ -58,11 +61,12 @@ module _ {D N : Type 0} (g : Ghosts D) where
     trace = goes.now.trace ∙ sym trace;
     moments = subst (λ d. LeavesOnly g a.disk d (IsReached registry w es)) (sym disk) goes.moments;
     stands = λ tells img is. inl (subst (λ r. IsOf r img (run registry es w)) same (ready_is_of g b.disk b.cluster (run registry es w) ready tells goes.now img (subst (λ d. IsImage (g.may_leave d) img) disk is)));
+    handed = λ tells. subst (λ x. (given : List WirePacket) × (n.handed x ≡ n.handed a.wire ++ given) × AreGiven registry w given es) (sym wire) (goes.handed tells);
   }
 
   -- events, and then others that came to an end by an error
-  pub breaks_on : (n : WireGhosts N) (registry : Registry) (w : World) (a b c : At D N) (es fs : List Event) → Goes g n registry w a b es → Breaks g registry (run registry es w) b c fs → Breaks g registry w a c (es ++ fs)
-  breaks_on n registry w a b c es fs first second = record {
+  pub breaks_on : (registry : Registry) (w : World) (a b c : At D N) (es fs : List Event) → Goes g n registry w a b es → Breaks g n registry (run registry es w) b c fs → Breaks g n registry w a c (es ++ fs)
+  breaks_on registry w a b c es fs first second = record {
     told = es ++ second.told;
     more = second.more;
     cut = append_assoc es second.told second.more ∙ ap (λ x. es ++ x) second.cut;
@@ -75,25 +79,28 @@ module _ {D N : Type 0} (g : Ghosts D) where
         (λ one. inl (subst (IsOf registry img) (sym (run_append registry es second.told w)) one))
         (λ other. inr (subst (IsOf registry img) (sym (run_append registry es fs w)) other))
         (second.stands tells img is);
+    handed = λ tells. given_on n registry w a.wire b.wire c.wire es fs (first.handed tells) (second.handed tells);
   }
 
   -- THE LOOP: hand-overs, and then others that came to an end by an error
-  pub breaks_then : (n : WireGhosts N) (x y : Course) (a b c : At D N) → b.cluster.registry ≡ a.cluster.registry → AreCells a.cluster.registry → HandsOver g n x y a b → BreaksOff g b c → BreaksOff g a c
-  breaks_then n x y a b c same cells first second start w order is_in =
+  pub breaks_then : (x y : Course) (a b c : At D N) → b.cluster.registry ≡ a.cluster.registry → AreCells a.cluster.registry → HandsOver g n x y a b → BreaksOff g n b c → BreaksOff g n a c
+  breaks_then x y a b c same cells first second start w order is_in =
       let registry = a.cluster.registry in
       let one = first start w order is_in in
       let order_then = run-in_order registry start (λ cell id found. wide_of registry cells cell id found) one.0 w order in
       let two = second start (run registry one.0 w) (subst (λ r. IsInOrder r start (run registry one.0 w)) (sym same) order_then) one.4.now in (
         one.0 ++ two.0,
         all_append one.0 two.0 one.1 two.1,
-        breaks_on n registry w a b c one.0 two.0 one.4 (subst (λ r. Breaks g r (run registry one.0 w) b c two.0) same two.2),
+        (let first_takes = one.3 in let then_takes = two.2 in let both = length-append one.0 two.0 in omega (arith, first_takes, then_takes, both)),
+        breaks_on registry w a b c one.0 two.0 one.4 (subst (λ r. Breaks g n r (run registry one.0 w) b c two.0) same two.3),
       )
 
 -- the hand-over of a packet that was sent here came to an end by an error
-module _ {D N : Type 0} (g : Ghosts D) (a : At D N) (b : Cluster) (given : WirePacket) (one : CountsOne a.cluster b) where
-  pub breaks_sent : (place : ℕ) (c : At D N) (v : N) → CountsNow g → IsSentAt a.cluster.post place given → BreaksAt g place (moment b a.disk v) c → BreaksOff g a c
+module _ {D N : Type 0} (g : Ghosts D) (n : WireGhosts N) (a : At D N) (b : Cluster) (given : WirePacket) (one : CountsOne a.cluster b) where
+  pub breaks_sent : (place : ℕ) (c : At D N) (v : N) → CountsNow g → IsSentAt a.cluster.post place given → BreaksAt g place (moment b a.disk v) c → c.cluster.takes ≡ b.takes →
+      (IsTrue n.tells → n.handed c.wire ≡ n.handed a.wire ++ given ∷ []) → BreaksOff g n a c
   unfolding happens
-  breaks_sent place c v counts found breaking start w order is_in =
+  breaks_sent place c v counts found breaking takes handed start w order is_in =
       let registry = a.cluster.registry in
       let p = found.0 in
       let in_place : slice_get w.sent place ≡ Some p = ap (λ ps. slice_get ps place) is_in.sent ∙ found.1 in
@@ -108,6 +115,7 @@ module _ {D N : Type 0} (g : Ghosts D) (a : At D N) (b : Cluster) (given : WireP
       λ img is. subst (IsOf registry img) (sym comes) (subst (λ r. IsOf r img (after_message b.registry (place + 1) p.message (with_handed (Some p.message) w))) one.registry is) in (
         hands place ∷ [],
         (tt, tt),
+        takes ∙ one.takes,
         record {
           told = [];
           more = hands place ∷ [];
@@ -122,5 +130,6 @@ module _ {D N : Type 0} (g : Ghosts D) (a : At D N) (b : Cluster) (given : WireP
           stands = λ tells img is. (
               let left = broke.moments tells in
               ⊎_elim (λ old. inl (before img old)) (λ new. inr (behind img new)) (left.each img (counts c.disk (g.moment a.disk) img left.later is)));
+          handed = λ tells. (given ∷ [], handed tells, (given ∷ [], [], refl, (p, in_place, ap (λ x. x ∷ []) (sym found.2)), refl));
         },
       )

@@ -1,5 +1,5 @@
 -- The agents of a configuration's cells.
-use Rattle.std.proofs.Common.{◌≡◌, ◌≢◌, ℕ, zero, suc, Bool, true, false, cond, nat_eq, List, [], ◌∷◌, ◌++◌, map, Option, Some, None, refl, sym, ◌∙◌, ap, subst}
+use Rattle.std.proofs.Common.{◌≡◌, ◌≢◌, ℕ, zero, suc, true, false, nat_eq, List, [], ◌∷◌, ◌++◌, map, Option, Some, None, refl, sym, ◌∙◌, ap, subst}
 use Rattle.std.specs.Prelude.{IsSome}
 use Rattle.std.specs.List.{Contains, slice_get, list_any}
 use Rattle.std.proofs.lemmas.Bool.Decides.{Decides-eqb}
@@ -72,6 +72,13 @@ module _ (registry : Registry) (agents : List CellAgent) (are_of : AreOf registr
   abbrev cell_ids : List ℕ
   cell_ids = map (λ (a : CellAgent). a.store.cell) agents
 
+  -- the cell of an agent is there
+  agent_known : (a : CellAgent) → Contains agents a → IsSome (cell_of registry a.store.cell)
+  agent_known a there =
+      let at : Contains cell_ids a.store.cell = in_map (λ (x : CellAgent). x.store.cell) agents a there in
+      let c = of_map (λ (x : Cell). x.id) registry.cells a.store.cell (subst (λ l. Contains l a.store.cell) are_of at) in
+      subst (λ id. IsSome (cell_of registry id)) c.2 (known_of registry c.0 c.1)
+
   pub agents_of : AreApart registry.cells → AreAgentsOf registry agents
   agents_of apart = record {
     there = λ id known. (
@@ -79,15 +86,9 @@ module _ (registry : Registry) (agents : List CellAgent) (are_of : AreOf registr
         let at : Contains (ids registry.cells) c.0.id = in_map (λ (x : Cell). x.id) registry.cells c.0 c.1 in
         let a = of_map (λ (x : CellAgent). x.store.cell) agents c.0.id (subst (λ l. Contains l c.0.id) (sym are_of) at) in
         (a.0, a.1, a.2 ∙ c.2));
+    known = agent_known;
     apart = λ n m a b at_n at_m clash. apart n m a.store.cell (in_place n a at_n) (in_place m b at_m ∙ ap Some (sym clash));
   }
     where
       in_place : (n : ℕ) (a : CellAgent) → slice_get agents n ≡ Some a → slice_get (ids registry.cells) n ≡ Some a.store.cell
       in_place n a at = ap (λ l. slice_get l n) (sym are_of) ∙ slice_get-map (λ (x : CellAgent). x.store.cell) agents n ∙ ap (Rattle.std.specs.Prelude.option_map (λ (x : CellAgent). x.store.cell)) at
-
-  -- the cell of an agent is there
-  pub agent_known : (a : CellAgent) → Contains agents a → IsSome (cell_of registry a.store.cell)
-  agent_known a there =
-      let at : Contains cell_ids a.store.cell = in_map (λ (x : CellAgent). x.store.cell) agents a there in
-      let c = of_map (λ (x : Cell). x.id) registry.cells a.store.cell (subst (λ l. Contains l a.store.cell) are_of at) in
-      subst (λ id. IsSome (cell_of registry id)) c.2 (known_of registry c.0 c.1)

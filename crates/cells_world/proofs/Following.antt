@@ -18,19 +18,24 @@ use Rattle.cells_script.specs.declared.line.Line.{Line}
 use Rattle.cells_world.specs.Answers.{Begins, answer_by, answer_of, begun_of, course_of, puts_first}
 use Rattle.cells_world.specs.Cluster.{IsReady}
 use Rattle.cells_world.specs.Course.{course_behind, reply_of}
-use Rattle.cells_world.specs.Follows.{AreEventsOf, AreEventsOff, Drains}
+use Rattle.cells_world.specs.Follows.{AreEventsOff, AreLineEvents, Drains, FollowsFrom, way_behind}
 use Rattle.cells_world.specs.Lines.{own_events}
-use Rattle.cells_world.specs.Post.{packets_of}
-use Rattle.cells_world.specs.World.{IsHandOver, IsIn, IsReached, At, at as moment, Breaks, BreaksOff, Goes, HandsOver}
+use Rattle.cells_world.specs.OnWay.{AreOnWay, sent_between}
+use Rattle.cells_world.specs.Packets.{after_puts, let_through, spelled_from}
+use Rattle.cells_world.specs.Post.{packets_of, Puts}
+use Rattle.cells_world.specs.Puts.{PutsFor, armed_by, puts_again}
+use Rattle.cells_world.specs.World.{IsHandOver, IsIn, IsReached, At, at as moment, way_at, Breaks, BreaksOff, Goes, HandsOver, Works}
 use Rattle.cells_world.specs.declared.answer.Begun.{Begun}
 use Rattle.cells_world.specs.declared.cluster.Cluster.{Cluster}
 use Rattle.cells_world.specs.declared.course.Course.{Course}
 use Rattle.cells_world.specs.declared.limits.TheConstants.{TAKES_A_LINE}
 use Rattle.cells_world.proofs.Breaking.{breaks_behind_all, breaks_on}
-use Rattle.cells_world.proofs.Going.{goes_on, reached_now}
+use Rattle.cells_world.proofs.Going.{goes_on, reached_now, way_same, works_before, works_behind}
 use Rattle.std.proofs.lemmas.List.{append-nil}
+use Rattle.std.proofs.Math.Seq.{drop-append_seam}
 use Rattle.cells_world.proofs.Served.{ready_is_of}
 use Rattle.cells_world.proofs.Wanting.{own_given}
+use Rattle.cells_world.proofs.Waiting.{answers_earlier_in, cells_known, waits_for_cause}
 
 empty_of : {X : Type 0} (xs : List X) → length xs ≤ 0 → xs ≡ []
 empty_of [] few = refl
@@ -85,57 +90,96 @@ module _ {D N : Type 0} (g : Ghosts D) (n : WireGhosts N) (a : At D N) (mid : Cl
   order_behind : IsInOrder mid.registry start behind
   order_behind = subst (λ r. IsInOrder r start behind) (sym same) (run-in_order registry start (λ cell id found. wide_of registry ready.configured cell id found) own w order)
 
+  -- its own event, and then these hand-overs: none where no packet was put
+  line_of : (taken : List Event) → AllByRecursion IsHandOver taken → (takes : ℕ) → takes ≡ mid.takes + length taken → (begun : Begun) → Begins now line a.cluster begun → takes ≤ mid.takes + TAKES_A_LINE →
+      (puts_first begun ≡ false → takes ≡ mid.takes) → AreLineEvents w now line taken (own ++ taken)
+  line_of taken hand_over takes count begun begins few quiet = record {
+    all = refl;
+    hand_over = hand_over;
+    few = omega (arith, count, few);
+    quiet = λ none. (let same = quiet (ap puts_first (begins start w order is_in) ∙ none) in empty_of taken (omega (arith, count, same)));
+  }
+
   -- what hand-overs behind it came to
   module _ (x y : Course) (b : At D N) (hands : HandsOver g n x y (moment mid a.disk wire) b) where
     two : (es : List Event) × AllByRecursion IsHandOver es × (y ≡ course_behind mid.registry behind x es) × (b.cluster.takes ≡ mid.takes + length es) × Goes g n mid.registry behind (moment mid a.disk wire) b es
+        × (Works n wire b.wire → AreOnWay mid.registry behind (way_at n (moment mid a.disk wire)) es (way_at n b))
     two = hands start behind order_behind (acts start w order is_in)
 
     goes_both : Goes g n registry w a b (own ++ two.0)
     goes_both = goes_on g n registry w a (moment mid a.disk wire) b own two.0 first (subst (λ r. Goes g n r behind (moment mid a.disk wire) b two.0) same two.4)
 
     -- all was done, and the line came to its end behind it
-    pub breaks_late : (c : At D N) → IsReady g b.disk b.cluster → b.cluster.registry ≡ registry → c.disk ≡ b.disk → c.cluster.trace.items ≡ b.cluster.trace.items → (es : List Event) × AreEventsOff w now line es × Breaks g registry w a c es
-    breaks_late c ready_then same_then disk trace = (own ++ two.0, inr (two.0, refl, two.1), breaks_behind_all g n registry a b c w (own ++ two.0) ready_then same_then goes_both disk trace)
+    pub breaks_late : (c : At D N) → IsReady g b.disk b.cluster → b.cluster.registry ≡ registry → c.disk ≡ b.disk → c.cluster.trace.items ≡ b.cluster.trace.items → c.wire ≡ b.wire →
+        (begun : Begun) → Begins now line a.cluster begun → b.cluster.takes ≤ mid.takes + TAKES_A_LINE → (puts_first begun ≡ false → b.cluster.takes ≡ mid.takes) →
+        (es : List Event) × AreEventsOff w now line es × Breaks g n registry w a c es
+    breaks_late c ready_then same_then disk trace same_wire begun begins few quiet = (
+      own ++ two.0,
+      inr (two.0, line_of two.0 two.1 b.cluster.takes two.3 begun begins few quiet),
+      breaks_behind_all g n registry a b c w (own ++ two.0) ready_then same_then goes_both disk trace same_wire,
+    )
 
     module _ (begun : Begun) (answer : Answer) (begins : Begins now line a.cluster begun) (is_begun : x ≡ course_of begun (length (packets_of mid.post)))
         (few : b.cluster.takes ≤ mid.takes + TAKES_A_LINE) (quiet : puts_first begun ≡ false → b.cluster.takes ≡ mid.takes)
-        (drains : IsTrue (puts_first begun) → Drains n wire b.wire mid.takes b.cluster.takes) (own_faults : n.faults a.wire ≤ n.faults wire) (same_takes : mid.takes ≡ a.cluster.takes)
+        (drains : IsTrue (puts_first begun) → Drains n wire b.wire mid.takes b.cluster.takes) (own_faults : n.faults a.wire ≤ n.faults wire) (then_faults : n.faults wire ≤ n.faults b.wire) (same_takes : mid.takes ≡ a.cluster.takes)
+        (puts : PutsFor (Puts n) line a.wire wire a.cluster.post mid.post)
         (is_answer : answer ≡ comes_to begun a.cluster.trace.items b.cluster.trace.items a.cluster.notes.items b.cluster.notes.items (packets_of b.cluster.post) y) where
       is_first : begun ≡ begun_of w now line
       is_first = begins start w order is_in
 
-      -- what was taken is nothing where no packet was put
-      nothing_taken : puts_first (begun_of w now line) ≡ false → two.0 ≡ []
-      nothing_taken none =
-          let still = quiet (ap puts_first is_first ∙ none) in
+      -- what its own event put is on its way behind what was
+      on_way_behind : Works n a.wire b.wire → way_at n (moment mid a.disk wire) ≡ way_behind registry w now line (way_at n a)
+      on_way_behind works =
+          let first = works_before n a.wire wire b.wire then_faults works in
+          let sent_at : (puts_again line (packets_of a.cluster.post) ++ spelled_from (length (packets_of a.cluster.post)) puts.packets) ≡ (puts_again line w.sent ++ sent_between w behind) =
+          ap (λ xs. puts_again line (packets_of a.cluster.post) ++ spelled_from (length (packets_of a.cluster.post)) xs)
+          (sym (drop-append_seam (packets_of a.cluster.post) puts.packets) ∙ ap (drop (length (packets_of a.cluster.post))) (sym puts.sent ∙ sym (acts start w order is_in).sent))
+          ∙ ap (λ ps. puts_again line ps ++ spelled_from (length ps) (drop (length ps) behind.sent)) (sym is_in.sent) in
+          let armed = armed_by line a.cluster.post.armed.items in
+          way_same (n.queued wire) (n.queued a.wire ++ let_through armed (puts_again line w.sent ++ sent_between w behind)) mid.post.armed.items (after_puts (puts_again line w.sent ++ sent_between w behind) armed)
+          (puts.put.put.queued first.0 first.1 ∙ ap (λ xs. n.queued a.wire ++ let_through armed xs) sent_at)
+          (puts.put.left ∙ ap (λ xs. after_puts xs armed) sent_at)
+
+      in_order : Works n a.wire b.wire → AreOnWay registry behind (way_behind registry w now line (way_at n a)) two.0 (way_at n b)
+      in_order works =
+          subst (λ way. AreOnWay registry behind way two.0 (way_at n b)) (on_way_behind works)
+          (subst (λ r. AreOnWay r behind (way_at n (moment mid a.disk wire)) two.0 (way_at n b)) same (two.5 (works_behind n a.wire wire b.wire own_faults works)))
+
+      drains_all : Works n a.wire b.wire → IsTrue (puts_first (begun_of w now line)) → (n.queued b.wire ≡ []) ⊎ (length two.0 ≡ TAKES_A_LINE)
+      drains_all works first_put =
+          let then_works = works_behind n a.wire wire b.wire own_faults works in
           let count = two.3 in
-          empty_of two.0 (omega (arith, count, still))
+          ⊎_elim (λ empty. inl empty) (λ all. inr (omega (arith, all, count))) (drains (ap puts_first is_first ∙ first_put) then_works.0 then_works.1)
 
-      drains_all : IsTrue (puts_first (begun_of w now line)) → Drains n a.wire b.wire a.cluster.takes b.cluster.takes
-      drains_all puts tells still =
-          let drained = drains (ap puts_first is_first ∙ puts) tells (λ rose. still (let on = own_faults in omega (arith, rose, on))) in
-          ⊎_elim (λ empty. inl empty) (λ all. inr (all ∙ ap (λ t. t + TAKES_A_LINE) same_takes)) drained
-
-      pub follows : (es : List Event) × AreEventsOf registry w now line answer es × Goes g n registry w a b es
-          × (IsTrue (puts_first (begun_of w now line)) → Drains n a.wire b.wire a.cluster.takes b.cluster.takes)
-      follows =
+      is_answered : answer ≡ answer_of registry w now line two.0
+      is_answered =
+          let goes = subst (λ r. Goes g n r behind (moment mid a.disk wire) b two.0) same two.4 in
           let is_course = two.2 ∙ ap (λ r. course_behind r behind x two.0) same ∙ ap (λ q. course_behind registry behind q two.0) is_begun in
-          let goes = subst (λ r. Goes g n r behind (moment mid a.disk wire) b two.0) same two.4 in (
-            own ++ two.0,
-            record {
-              taken = two.0;
-              all = refl;
-              hand_over = two.1;
-              few = (let count = two.3 in omega (arith, count, few));
-              quiet = nothing_taken;
-              answered = same_answer registry a.cluster mid b.cluster begun y answer now line two.0 w behind is_in (acts start w order is_in) goes.now is_first refl is_course is_answer;
-            },
-            goes_both,
-            drains_all,
-          )
+          same_answer registry a.cluster mid b.cluster begun y answer now line two.0 w behind is_in (acts start w order is_in) goes.now is_first refl is_course is_answer
+
+      pub follows : FollowsFrom g n w now line answer a b
+      follows = (
+        own ++ two.0,
+        record {
+          taken = two.0;
+          events = line_of two.0 two.1 b.cluster.takes two.3 begun begins few quiet;
+          answered = is_answered;
+        },
+        goes_both,
+        λ works. record {
+          in_order = in_order works;
+          drains = drains_all works;
+          causes = waits_for_cause registry start w order now line (answers_earlier_in a.cluster w ready.packets is_in) (cells_known a.cluster w ready.agents is_in)
+              two.0 two.1 (way_at n a) (way_at n b) (in_order works) (drains_all works) answer is_answered;
+        },
+      )
 
   -- hand-overs behind it came to an end by an error
-  pub breaks_line : (c : At D N) → BreaksOff g (moment mid a.disk wire) c → (es : List Event) × AreEventsOff w now line es × Breaks g registry w a c es
-  breaks_line c off =
-      let two = off start behind order_behind (acts start w order is_in) in
-      (own ++ two.0, inr (two.0, refl, two.1), breaks_on g n registry w a (moment mid a.disk wire) c own two.0 first (subst (λ r. Breaks g r behind (moment mid a.disk wire) c two.0) same two.2))
+  pub breaks_line : (c : At D N) → BreaksOff g n (moment mid a.disk wire) c → (begun : Begun) → Begins now line a.cluster begun → c.cluster.takes ≤ mid.takes + TAKES_A_LINE → (puts_first begun ≡ false → c.cluster.takes ≡ mid.takes) →
+      (es : List Event) × AreEventsOff w now line es × Breaks g n registry w a c es
+  breaks_line c off begun begins few quiet =
+      let two = off start behind order_behind (acts start w order is_in) in (
+        own ++ two.0,
+        inr (two.0, line_of two.0 two.1 c.cluster.takes two.2 begun begins few quiet),
+        breaks_on g n registry w a (moment mid a.disk wire) c own two.0 first (subst (λ r. Breaks g n r behind (moment mid a.disk wire) c two.0) same two.3),
+      )

@@ -16,7 +16,17 @@ pub mod Posted
 pub mod Acting
 pub mod Reconcile
 pub mod Wanting
+pub mod Lossless
+pub mod Undrawn
+pub mod Handing
+pub mod Tracking
+pub mod Replying
+pub mod Changing
+pub mod Answered
+pub mod Unhindered
+pub mod Waiting
 pub mod Following
 pub mod Growing
+pub mod Tracing
 pub mod Begun
 pub mod Putting

@@ -1,12 +1,13 @@
 -- One agent of a list is put in its place.
-use Rattle.std.proofs.Common.{◌≡◌, ◌≢◌, ◌⊎◌, inl, inr, ⊎_elim, ℕ, zero, suc, List, [], ◌∷◌, set, Some, refl, sym, ◌∙◌, ap}
+use Rattle.std.proofs.Common.{◌≡◌, ◌≢◌, ◌⊎◌, inl, inr, ⊎_elim, ℕ, zero, suc, List, [], ◌∷◌, set, Some, refl, sym, ◌∙◌, ap, subst}
+use Rattle.std.specs.Prelude.{IsSome}
 use Rattle.std.specs.List.{Contains, slice_get}
 use Rattle.std.specs.FinMap.{nat_cmp-IsAntisymmetric}
 use Rattle.std.specs.Cmp.{nat_cmp_total}
 use Rattle.std.proofs.lemmas.Option.{slice_get-get_or}
 use Rattle.cells_base.proofs.Maps.{same_or_other}
 use Rattle.cells_base.proofs.Members.{at_place}
-use Rattle.claim_map.specs.Registry.{Registry}
+use Rattle.claim_map.specs.Registry.{Registry, cell_of}
 use Rattle.reconciler.specs.declared.agent.CellAgent.{CellAgent}
 use Rattle.cells_world.specs.Cluster.{AreAgentsOf, IsPlaceOf, PutsOne}
 
@@ -62,6 +63,10 @@ module _ (registry : Registry) (cells : List CellAgent) (n : ℕ) (k now : CellA
         (λ (e : was.0.store.cell ≡ now.store.cell). (now, puts_set.put, sym e ∙ was.2))
         (λ apart. (was.0, puts_set.others was.0 was.1 apart, was.2))
         (same_or_other nat_cmp_total nat_cmp-IsAntisymmetric was.0.store.cell now.store.cell));
+    known = λ a there. ⊎_elim
+        (λ (is : a ≡ now). subst (λ q. IsSome (cell_of registry q)) (sym (cell_of_now a is)) (agents.known k (at_place cells n k here)))
+        (λ old. agents.known a old.0)
+        (puts_set.each a there);
     apart = λ i j a b at_i at_j clash. places i j a b clash (which i a at_i) (which j b at_j);
   }
     where

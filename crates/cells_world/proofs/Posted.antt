@@ -1,5 +1,5 @@
 -- A packet is found by its tag.
-use Rattle.std.proofs.Common.{◌≡◌, ◌≢◌, ◌⊎◌, inl, inr, ℕ, zero, suc, ◌+◌, ◌<◌, List, [], ◌∷◌, ◌++◌, length, Some, refl, sym, ◌∙◌, ap, subst, arith}
+use Rattle.std.proofs.Common.{◌≡◌, ◌≢◌, ◌⊎◌, inl, inr, ℕ, zero, suc, ◌+◌, ◌<◌, ◌≤◌, List, [], ◌∷◌, ◌++◌, length, Some, refl, sym, ◌∙◌, ap, subst, arith}
 use Rattle.std.specs.Prelude.{map as list_map, Result, Ok, Err, OnOk}
 use Rattle.cells_base.specs.declared.memory.NoMemory.{NoMemory}
 use Rattle.std.specs.List.{slice_get}
@@ -7,6 +7,7 @@ use Rattle.std.specs.declared.vec.Vec.{Vec}
 use Rattle.std.proofs.lemmas.Option.{slice_get_within}
 use Rattle.cells_edge.specs.declared.wire.Packet.{Packet as WirePacket}
 use Rattle.cells_edge.specs.declared.wire.Wire.{Ghosts}
+use Rattle.claim_laws.specs.World.{Packet}
 use Rattle.cells_world.specs.Packets.{spelled}
 use Rattle.cells_world.specs.Post.{packet_of, packets_of, ArePackets, IsSent, IsSentAt, WasNotSent, Puts, RepeatsAt}
 use Rattle.cells_world.specs.declared.post.Post.{Post}
@@ -16,6 +17,11 @@ pub mapped : {X Y : Type 0} (f : X → Y) (xs : List X) (k : ℕ) (x : X) → sl
 mapped f [] k x is = absurd cc
 mapped f (y ∷ ys) zero x is = let same : y ≡ x = cc in ap (λ z. Some (f z)) same
 mapped f (y ∷ ys) (suc k) x is = mapped f ys k x is
+
+pub unmapped : {X Y : Type 0} (f : X → Y) (xs : List X) (k : ℕ) (y : Y) → slice_get (list_map f xs) k ≡ Some y → (x : X) × (slice_get xs k ≡ Some x) × (f x ≡ y)
+unmapped f [] k y is = absurd cc
+unmapped f (x ∷ xs) zero y is = (x, refl, cc)
+unmapped f (x ∷ xs) (suc k) y is = unmapped f xs k y is
 
 same_some : {X : Type 0} (x y : X) → Some x ≡ Some y → x ≡ y
 same_some x y is = cc
@@ -47,6 +53,14 @@ module _ (post : Post) (given : WirePacket) (k : ℕ) (s : Sent) (are : ArePacke
 pub map_length : {X Y : Type 0} (f : X → Y) (xs : List X) → length (list_map f xs) ≡ length xs
 map_length f [] = refl
 map_length f (x ∷ xs) = let rest = map_length f xs in omega (arith, rest)
+
+-- a packet that was sent answers none but an earlier one
+pub answers_earlier : (post : Post) → ArePackets post → (k : ℕ) (p : Packet) → slice_get (packets_of post) k ≡ Some p → p.answers ≤ k
+answers_earlier post are k p there =
+    let of = unmapped packet_of post.sent.items k p there in
+    let earlier = (are k of.0 of.1).earlier in
+    let same = ap (λ (x : Packet). x.answers) of.2 in
+    omega (arith, earlier, same)
 
 -- a packet that was sent has a place among those that were
 pub sent_within : (post : Post) (k : ℕ) (given : WirePacket) → IsSentAt post k given → k < length post.sent.items

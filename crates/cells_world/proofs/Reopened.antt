@@ -65,7 +65,6 @@ kept_for (b ∷ rest) a there = elim (same_or_other nat_cmp_total nat_cmp-IsAnti
 
 module _ (registry : Registry) (img : Image) (c : Cluster)
     (agents : AreAgentsOf registry c.cells.items)
-    (known : (a : CellAgent) → Contains c.cells.items a → IsSome (cell_of registry a.store.cell))
     (stores : (a : CellAgent) → Contains c.cells.items a → IsStore a.store)
     (idle : (a : CellAgent) → Contains c.cells.items a → IsIdle a)
     (is_new : IsNew c)
@@ -79,7 +78,7 @@ module _ (registry : Registry) (img : Image) (c : Cluster)
   store_is : (a : CellAgent) → Contains c.cells.items a → stored a.store ≡ next_epoch (store_at w a.store.cell)
   store_is a there =
       let it = opened a there in
-      it.now ∙ ap next_epoch (same_state (store a.store.cell) cell_one img a.store.cell it.before (store_at w a.store.cell) it.stands (is_of.stores a.store.cell (known a there)))
+      it.now ∙ ap next_epoch (same_state (store a.store.cell) cell_one img a.store.cell it.before (store_at w a.store.cell) it.stands (is_of.stores a.store.cell (agents.known a there)))
 
   agent_is : (a : CellAgent) → Contains c.cells.items a → kept_by a ≡ kept_with (next_epoch (store_at w a.store.cell)) map.empty 0
   agent_is a there = idle a there ∙ ap (λ s. kept_with s map.empty 0) (store_is a there)

@@ -37,7 +37,8 @@ use Rattle.cells_world.specs.Cluster.{PutsOne, SendsOnly}
 use Rattle.cells_world.specs.Lines.{asks_range, asks_for, cell_of_change, own_events}
 use Rattle.cells_world.specs.Post.{packets_of}
 use Rattle.cells_world.specs.Wanted.{change_wanted}
-use Rattle.cells_world.specs.World.{AreGiven, IsIn, IsCellIn}
+use Rattle.cells_world.specs.OnWay.{AreGiven}
+use Rattle.cells_world.specs.World.{IsIn, IsCellIn}
 use Rattle.cells_world.specs.declared.cluster.Cluster.{Cluster}
 use Rattle.cells_world.proofs.Acting.{acted_in, sent_in}
 use Rattle.std.proofs.lemmas.List.{append-nil}

@@ -177,6 +177,10 @@ answer_behind registry w begun mid taken = answer_between begun w (run registry 
 abbrev pub answer_of : Registry → World → ℕ → Line → List Event → Answer
 answer_of registry w now line taken = answer_behind registry w (begun_of w now line) (run registry (own_events w now line) w) taken
 
+abbrev pub waits : Answer → Bool
+waits (Waiting lease) = true
+waits other = false
+
 -- this was begun, in any world in order that the cluster is in
 abbrev pub Begins : ℕ → Line → Cluster → Begun → Type 0
 Begins now line old begun = (start : ClaimMap) (w : World) → IsInOrder old.registry start w → IsIn old w → begun ≡ begun_of w now line

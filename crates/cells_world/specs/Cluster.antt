@@ -27,9 +27,10 @@ IsPlaceOf cells cell n = (a : CellAgent) × (slice_get cells n ≡ Some a) × (a
 abbrev pub Lacks : List CellAgent → ℕ → Type 0
 Lacks cells cell = (a : CellAgent) → Contains cells a → a.store.cell ≢ cell
 
--- each cell of the configuration has an agent, and no two agents are of one cell
+-- each cell of the configuration has an agent, no other has one, and no two agents are of one cell
 pub record AreAgentsOf (registry : Registry) (cells : List CellAgent) : Type 0 where
   pub there : (id : ℕ) → IsSome (cell_of registry id) → (a : CellAgent) × Contains cells a × (a.store.cell ≡ id)
+  pub known : (a : CellAgent) → Contains cells a → IsSome (cell_of registry a.store.cell)
   pub apart : (n m : ℕ) (a b : CellAgent) → slice_get cells n ≡ Some a → slice_get cells m ≡ Some b → a.store.cell ≡ b.store.cell → n ≡ m
 
 -- Every node is live and at rest on this disk, and each packet that was sent is spelled as its place says, within its bounds.

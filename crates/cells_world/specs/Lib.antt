@@ -4,13 +4,14 @@ pub mod Serving
 pub mod Faults
 pub mod Hearing
 pub mod Course
+pub mod OnWay
 pub mod World
 pub mod Cluster
 pub mod Wanted
 pub mod Lines
 pub mod Answers
-pub mod Follows
 pub mod Puts
+pub mod Follows
 pub mod Opening
 pub mod Ending
 pub mod Examples

@@ -1,14 +1,13 @@
 -- What a line puts on the wire.
-use Rattle.std.specs.Prelude.{◌≡◌, ℕ, ◌-◌, IsTrue, if◌then◌else◌, List, [], ◌∷◌, ◌++◌, length, Option, Some, None}
+use Rattle.std.specs.Prelude.{◌≡◌, ℕ, ◌-◌, if◌then◌else◌, List, [], ◌∷◌, ◌++◌, length, Option, Some, None}
 use Rattle.std.specs.List.{slice_get}
 use Rattle.cells_edge.specs.declared.wire.Packet.{Packet as WirePacket}
-use Rattle.cells_edge.specs.declared.wire.Wire.{Ghosts}
 use Rattle.claim_laws.specs.World.{Packet}
 use Rattle.cells_script.specs.declared.line.Line.{Line}
 use Rattle.cells_script.specs.declared.line.Line.TheVariants.{Lose, Repeat}
 use Rattle.cells_world.specs.Answers.{is_tag}
-use Rattle.cells_world.specs.Packets.{spelled, spelled_from, after_puts, let_through}
-use Rattle.cells_world.specs.Post.{packets_of, Puts, armed_with}
+use Rattle.cells_world.specs.Packets.{spelled, spelled_from, after_puts}
+use Rattle.cells_world.specs.Post.{packets_of, armed_with}
 use Rattle.cells_world.specs.declared.post.Post.{Post}
 
 -- the packet in this place, if there is one
@@ -31,13 +30,13 @@ armed_by (Lose number) armed = armed_with number armed
 armed_by other armed = armed
 
 -- these packets are put, but for those that are lost; each counts for what is armed then
-pub record ArePut {N : Type 0} (n : Ghosts N) (wire_old wire_new : N) (armed armed_now : List ℕ) (packets : List WirePacket) : Type 0 where
-  pub put : Puts n wire_old wire_new armed packets
+pub record ArePut {N : Type 0} (Put : N → N → List ℕ → List WirePacket → Type 0) (wire_old wire_new : N) (armed armed_now : List ℕ) (packets : List WirePacket) : Type 0 where
+  pub put : Put wire_old wire_new armed packets
   pub left : armed_now ≡ after_puts packets armed
 
 -- A line puts a packet again, if it is one that does, and then these packets that it sends, each with the next tag.
-pub record PutsFor {N : Type 0} (n : Ghosts N) (line : Line) (wire_old wire_new : N) (old new : Post) : Type 0 where
+pub record PutsFor {N : Type 0} (Put : N → N → List ℕ → List WirePacket → Type 0) (line : Line) (wire_old wire_new : N) (old new : Post) : Type 0 where
   pub packets : List Packet
   pub sent : packets_of new ≡ packets_of old ++ packets
-  pub put : ArePut n wire_old wire_new (armed_by line old.armed.items) new.armed.items
+  pub put : ArePut Put wire_old wire_new (armed_by line old.armed.items) new.armed.items
       (puts_again line (packets_of old) ++ spelled_from (length (packets_of old)) packets)

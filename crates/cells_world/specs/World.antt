@@ -1,17 +1,18 @@
 -- The cluster in a world: the installation as the protocol's laws see it, and what goes from one moment to another.
-use Rattle.std.specs.Prelude.{◌≡◌, ◌≢◌, ◌⊎◌, ℕ, ◌+◌, ◌≤◌, IsTrue, IsSome, List, [], ◌∷◌, ◌++◌, length, Some}
+use Rattle.std.specs.Prelude.{◌≡◌, ◌⊎◌, ℕ, ◌+◌, ◌≤◌, IsTrue, IsSome, List, ◌++◌, length, Some}
 use Rattle.std.specs.List.{Contains, slice_get, AllByRecursion}
 use Rattle.std.specs.FinMap as map
 use Rattle.disk_journal.specs.declared.disk.Disk.{Ghosts}
 use Rattle.disk_journal.specs.Disk.{Image, IsImage}
 use Rattle.disk_journal.specs.Moments.{LeavesOnly}
 use Rattle.disk_journal.specs.Entries.{Stands}
+use Rattle.cells_edge.specs.Wire.{IsStill}
 use Rattle.cells_edge.specs.declared.wire.Packet.{Packet as WirePacket}
 use Rattle.cells_edge.specs.declared.wire.Wire.{Ghosts as WireGhosts}
 use Rattle.claim_map.specs.Registry.{Registry, cell_of}
 use Rattle.claim_map.specs.State.{ClaimMap, tree_of}
 use Rattle.claim_laws.specs.Acts.{after_message}
-use Rattle.claim_laws.specs.Events.{Event, hands, strays, happens, run}
+use Rattle.claim_laws.specs.Events.{Event, hands, strays, run}
 use Rattle.claim_laws.specs.Facts.{IsInOrder}
 use Rattle.claim_laws.specs.Files.{service_of, store_at}
 use Rattle.claim_laws.specs.Nodes.{Agent}
@@ -23,7 +24,7 @@ use Rattle.cell_store.specs.Store.{store, stored}
 use Rattle.reconciler.specs.Agent.{kept_by}
 use Rattle.reconciler.specs.declared.agent.CellAgent.{CellAgent}
 use Rattle.cells_world.specs.Course.{course_behind}
-use Rattle.cells_world.specs.Packets.{spelled}
+use Rattle.cells_world.specs.OnWay.{Way, AreGiven, AreOnWay}
 use Rattle.cells_world.specs.Post.{packets_of}
 use Rattle.cells_world.specs.declared.cluster.Cluster.{Cluster}
 use Rattle.cells_world.specs.declared.course.Course.{Course}
@@ -64,16 +65,9 @@ pub record At (D N : Type 0) : Type 0 where
 abbrev pub at : {D N : Type 0} → Cluster → D → N → At D N
 at c d n = record { cluster = c; disk = d; wire = n }
 
--- What a wire gave for an event: the packet that is handed to its receiver, one that nobody here sent, and nothing for what nodes do of themselves.
-abbrev pub GivenFor : List Packet → List WirePacket → Event → Type 0
-GivenFor sent given (hands n) = (p : Packet) × (slice_get sent n ≡ Some p) × (given ≡ spelled n p ∷ [])
-GivenFor sent given strays = (packet : WirePacket) × (given ≡ packet ∷ []) × ((n : ℕ) (p : Packet) → slice_get sent n ≡ Some p → spelled n p ≢ packet)
-GivenFor sent given other = given ≡ []
-
--- these packets were given for these events, in order
-abbrev pub AreGiven : Registry → World → List WirePacket → List Event → Type 0
-AreGiven registry w given [] = given ≡ []
-AreGiven registry w given (e ∷ es) = (now : List WirePacket) × (rest : List WirePacket) × (given ≡ now ++ rest) × GivenFor w.sent now e × AreGiven registry (happens registry w e) rest es
+-- what is on its way then
+abbrev pub way_at : {D N : Type 0} → WireGhosts N → At D N → Way
+way_at n at = record { packets = n.queued at.wire; armed = at.cluster.post.armed.items }
 
 -- the files stand for one of two worlds
 abbrev pub IsOfEither : Registry → World → World → Image → Type 0
@@ -112,16 +106,22 @@ IsHandOver (hands n) = Unit {0}
 IsHandOver strays = Unit {0}
 IsHandOver other = ⊥
 
--- What a call that hands packets over brings about, from any world in order that the cluster is in: one event for each that it takes, and the
--- line's course is the one behind these events.
+-- a wire did its work between two moments: it tells, and its count stood still
+abbrev pub Works : {N : Type 0} → WireGhosts N → N → N → Type 0
+Works n old new = IsTrue n.tells × IsStill (n.faults old) (n.faults new)
+
+-- What a call that hands packets over brings about, from any world in order that the cluster is in: one event for each that it takes, in order
+-- over a wire that does its work, and the line's course is the one behind these events.
 abbrev pub HandsOver : {D N : Type 0} → Ghosts D → WireGhosts N → Course → Course → At D N → At D N → Type 0
 HandsOver g n before after old new =
     (start : ClaimMap) (w : World) → IsInOrder old.cluster.registry start w → IsIn old.cluster w →
     (es : List Event) × AllByRecursion IsHandOver es × (after ≡ course_behind old.cluster.registry w before es) × (new.cluster.takes ≡ old.cluster.takes + length es) × Goes g n old.cluster.registry w old new es
+    × (Works n old.wire new.wire → AreOnWay old.cluster.registry w (way_at n old) es (way_at n new))
 
 -- What events leave that came to an end by an error: the steps that are told are those of some first ones, all but the last at most; at each
--- moment the files stood for a world that first events lead to, and at the end for the world behind those that are told, or behind one more.
-pub record Breaks {D N : Type 0} (g : Ghosts D) (registry : Registry) (w : World) (old new : At D N) (es : List Event) : Type 0 where
+-- moment the files stood for a world that first events lead to, and at the end for the world behind those that are told, or behind one more; and the wire
+-- handed over the packets of them all.
+pub record Breaks {D N : Type 0} (g : Ghosts D) (n : WireGhosts N) (registry : Registry) (w : World) (old new : At D N) (es : List Event) : Type 0 where
   pub told : List Event
   pub more : List Event
   pub cut : told ++ more ≡ es
@@ -129,9 +129,10 @@ pub record Breaks {D N : Type 0} (g : Ghosts D) (registry : Registry) (w : World
   pub trace : (run registry told w).trace ≡ new.cluster.trace.items
   pub moments : LeavesOnly g old.disk new.disk (IsReached registry w es)
   pub stands : IsTrue g.tells → (img : Image) → IsImage (g.may_leave new.disk) img → IsOfEither registry (run registry told w) (run registry es w) img
+  pub handed : IsTrue n.tells → (given : List WirePacket) × (n.handed new.wire ≡ n.handed old.wire ++ given) × AreGiven registry w given es
 
--- hand-overs came to such an end, from any world in order that the cluster is in
-abbrev pub BreaksOff : {D N : Type 0} → Ghosts D → At D N → At D N → Type 0
-BreaksOff g old new =
+-- hand-overs came to such an end, from any world in order that the cluster was in
+abbrev pub BreaksOff : {D N : Type 0} → Ghosts D → WireGhosts N → At D N → At D N → Type 0
+BreaksOff g n old new =
     (start : ClaimMap) (w : World) → IsInOrder old.cluster.registry start w → IsIn old.cluster w →
-    (es : List Event) × AllByRecursion IsHandOver es × Breaks g old.cluster.registry w old new es
+    (es : List Event) × AllByRecursion IsHandOver es × (new.cluster.takes ≡ old.cluster.takes + length es) × Breaks g n old.cluster.registry w old new es

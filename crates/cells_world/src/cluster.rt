@@ -4,7 +4,7 @@ ghost use Rattle.std.specs.List.{slice_get};
 ghost use Rattle.claim_laws.specs.Bounded.{IsMessage};
 ghost use Rattle.disk_journal.specs.Effects.{FailedAt};
 ghost use Rattle.cells_world.specs.Packets.{message_of};
-ghost use Rattle.cells_world.specs.Post.{packets_of, ArePackets, Sends, SendsSome};
+ghost use Rattle.cells_world.specs.Post.{packets_of, ArePackets, IsGiven, Puts, Sends, SendsSome};
 ghost use Rattle.claim_service.specs.State.{kept};
 ghost use Rattle.std.specs.FinMap as map;
 ghost use Rattle.cells_world.specs.Answers.{Begins, begun_on_wire, begun_repeat};
@@ -151,7 +151,7 @@ impl Cluster {
             (HandsAt D.Disk at (moment self.old disk.old wire.old) (moment self.new disk.new wire.new)) }
         ensures breaks { OnErr result
             (BreaksAt D.Disk at (moment self.old disk.old wire.old) (moment self.new disk.new wire.new)) }
-        ensures sends { OnOk result (SendsSome N.Wire wire.old wire.new self.old.post self.new.post) }
+        ensures sends { OnOk result (SendsSome (Puts N.Wire) wire.old wire.new self.old.post self.new.post) }
         ensures ready { OnOk result (IsReady D.Disk disk.new self.new) }
         ensures end { IsEndOf D.Disk disk.old disk.new result }
         ensures handed { IsTrue N.tells → N.handed wire.new ≡ N.handed wire.old }
@@ -198,8 +198,8 @@ impl Cluster {
             (HandsOver D.Disk N.Wire course.old course.new
             (moment self.old disk.old wire.old) (moment self.new disk.new wire.new)) }
         ensures breaks { OnErr result
-            (BreaksOff D.Disk (moment self.old disk.old wire.old) (moment self.new disk.new wire.new)) }
-        ensures sends { OnOk result (SendsSome N.Wire wire.old wire.new self.old.post self.new.post) }
+            (BreaksOff D.Disk N.Wire (moment self.old disk.old wire.old) (moment self.new disk.new wire.new)) }
+        ensures sends { OnOk result (SendsSome (IsGiven N.Wire) wire.old wire.new self.old.post self.new.post) }
         ensures ready { OnOk result (IsReady D.Disk disk.new self.new) }
         ensures end { IsEndOf D.Disk disk.old disk.new result }
         ensures grows { OnOk result (GoesOn self.old self.new) }
@@ -242,8 +242,8 @@ impl Cluster {
             (HandsOver D.Disk N.Wire course.old course.new
             (moment self.old disk.old wire.old) (moment self.new disk.new wire.new)) }
         ensures breaks { OnErr result
-            (BreaksOff D.Disk (moment self.old disk.old wire.old) (moment self.new disk.new wire.new)) }
-        ensures sends { OnOk result (SendsSome N.Wire wire.old wire.new self.old.post self.new.post) }
+            (BreaksOff D.Disk N.Wire (moment self.old disk.old wire.old) (moment self.new disk.new wire.new)) }
+        ensures sends { OnOk result (SendsSome (IsGiven N.Wire) wire.old wire.new self.old.post self.new.post) }
         ensures ready { OnOk result (IsReady D.Disk disk.new self.new) }
         ensures end { IsEndOf D.Disk disk.old disk.new result }
         ensures grows { OnOk result (GoesOn self.old self.new) }
@@ -279,8 +279,8 @@ impl Cluster {
         ensures quiet { puts ≡ false → self.new.takes ≡ self.old.takes }
         ensures drains { OnOk result (IsTrue puts → Drains N.Wire wire.old wire.new self.old.takes self.new.takes) }
         ensures breaks { OnErr result
-            (BreaksOff D.Disk (moment self.old disk.old wire.old) (moment self.new disk.new wire.new)) }
-        ensures sends { OnOk result (SendsSome N.Wire wire.old wire.new self.old.post self.new.post) }
+            (BreaksOff D.Disk N.Wire (moment self.old disk.old wire.old) (moment self.new disk.new wire.new)) }
+        ensures sends { OnOk result (SendsSome (IsGiven N.Wire) wire.old wire.new self.old.post self.new.post) }
         ensures ready { OnOk result (IsReady D.Disk disk.new self.new) }
         ensures end { IsEndOf D.Disk disk.old disk.new result }
         ensures grows { OnOk result (GoesOn self.old self.new) }
@@ -305,7 +305,7 @@ impl Cluster {
         requires packets { ArePackets self.old.post }
         requires bounds { IsRequest request }
         ensures sends { OnOk result
-            (Sends N.Wire wire.old wire.new self.old.post self.new.post (asked_packet request ∷ [])) }
+            (Sends (Puts N.Wire) wire.old wire.new self.old.post self.new.post (asked_packet request ∷ [])) }
         ensures packets { OnOk result (ArePackets self.new.post) }
         ensures handed { IsTrue N.tells → N.handed wire.new ≡ N.handed wire.old }
         ensures later { N.faults wire.old ≤ N.faults wire.new }
@@ -328,7 +328,7 @@ impl Cluster {
         ensures acts { OnOk result ((now : ℕ) → Acts now (LineRange cell number) self.old self.new) }
         ensures begun { IfOk result (λ begun. (now : ℕ) → Begins now (LineRange cell number) self.old begun) }
         ensures puts { OnOk result
-            (PutsFor N.Wire (LineRange cell number) wire.old wire.new self.old.post self.new.post) }
+            (PutsFor (Puts N.Wire) (LineRange cell number) wire.old wire.new self.old.post self.new.post) }
         ensures ready { OnOk result (IsReady D.Disk disk.now self.new) }
         ensures agents { self.new.cells.items ≡ self.old.cells.items }
         ensures notes { OnOk result (NotesMore self.old self.new) }
@@ -363,7 +363,7 @@ impl Cluster {
         requires cell { cell_of_change line.now ≡ Some cell }
         ensures acts { OnOk result (Acts now line.now self.old self.new) }
         ensures begun { IfOk result (Begins now line.now self.old) }
-        ensures puts { OnOk result (PutsFor N.Wire line.now wire.old wire.new self.old.post self.new.post) }
+        ensures puts { OnOk result (PutsFor (Puts N.Wire) line.now wire.old wire.new self.old.post self.new.post) }
         ensures ready { OnOk result (IsReady D.Disk disk.now self.new) }
         ensures end { IfErr result (λ e. e ≡ ClusterError.Memory) }
         ensures notes { OnOk result (NotesMore self.old self.new) }
@@ -404,7 +404,8 @@ impl Cluster {
         requires ready { IsReady D.Disk disk.now self.old }
         ensures acts { OnOk result (Acts now (Reconcile cell) self.old self.new) }
         ensures begun { IfOk result (Begins now (Reconcile cell) self.old) }
-        ensures puts { OnOk result (PutsFor N.Wire (Reconcile cell) wire.old wire.new self.old.post self.new.post) }
+        ensures puts { OnOk result
+            (PutsFor (Puts N.Wire) (Reconcile cell) wire.old wire.new self.old.post self.new.post) }
         ensures ready { OnOk result (IsReady D.Disk disk.now self.new) }
         ensures notes { OnOk result (NotesMore self.old self.new) }
         ensures handed { IsTrue N.tells → N.handed wire.new ≡ N.handed wire.old }
@@ -432,7 +433,7 @@ impl Cluster {
         requires packets { ArePackets self.old.post }
         ensures same { IsSameButWire self.old self.new }
         ensures begun { IfOk result (λ begun. begun ≡ begun_on_wire (length (packets_of self.old.post)) line.now) }
-        ensures puts { OnOk result (PutsFor N.Wire line.now wire.old wire.new self.old.post self.new.post) }
+        ensures puts { OnOk result (PutsFor (Puts N.Wire) line.now wire.old wire.new self.old.post self.new.post) }
         ensures waits { OnOk result (self.new.waited ≡ waited_by line.now self.old.waited) }
         ensures handed { IsTrue N.tells → N.handed wire.new ≡ N.handed wire.old }
         ensures later { N.faults wire.old ≤ N.faults wire.new }
@@ -461,7 +462,7 @@ impl Cluster {
         requires packets { ArePackets self.old.post }
         ensures same { IsSameButWire self.old self.new }
         ensures begun { IfOk result (λ begun. begun ≡ begun_repeat tag (length (packets_of self.old.post))) }
-        ensures puts { OnOk result (PutsFor N.Wire (Repeat tag) wire.old wire.new self.old.post self.new.post) }
+        ensures puts { OnOk result (PutsFor (Puts N.Wire) (Repeat tag) wire.old wire.new self.old.post self.new.post) }
         ensures waits { self.new.waited ≡ self.old.waited }
         ensures handed { IsTrue N.tells → N.handed wire.new ≡ N.handed wire.old }
         ensures later { N.faults wire.old ≤ N.faults wire.new }
@@ -485,7 +486,7 @@ impl Cluster {
         requires ready { IsReady D.Disk disk.now self.old }
         ensures acts { OnOk result (Acts now line.now self.old self.new) }
         ensures begun { IfOk result (Begins now line.now self.old) }
-        ensures puts { OnOk result (PutsFor N.Wire line.now wire.old wire.new self.old.post self.new.post) }
+        ensures puts { OnOk result (PutsFor (Puts N.Wire) line.now wire.old wire.new self.old.post self.new.post) }
         ensures ready { OnOk result (IsReady D.Disk disk.now self.new) }
         ensures end { IfErr result (λ e. e ≡ ClusterError.Memory) }
         ensures notes { OnOk result (NotesMore self.old self.new) }
@@ -576,7 +577,8 @@ impl Cluster {
 
     /// Does a line of a script at this moment of the clock, in seconds: the line's own event first, and then, where this put a
     /// packet, it takes packets and hands them over, until a take gives none or fails, or as many were taken as a line may
-    /// take. The answer is the one that these events bring.
+    /// take. The answer is the one that these events bring. Over a wire that tells, and whose count stood still, `waiting` comes
+    /// only where as many packets were taken, where a put was lost, or where the line's own event came to it.
     ///
     /// Errors: [`ClusterError::DiskFailed`] where calls of the disk on this file failed; [`ClusterError::Memory`]. The cluster
     /// is not used again then; its trace is that of some first events of the line, and the files stand for the world behind
@@ -594,9 +596,9 @@ impl Cluster {
         requires built { IsBuilt line.now }
         ensures follows { IfOk result (λ answer. Follows D.Disk N.Wire now line.now answer
             (moment self.old disk.old wire.old) (moment self.new disk.new wire.new)) }
-        ensures breaks { OnErr result (BreaksLine D.Disk now line.now
+        ensures breaks { OnErr result (BreaksLine D.Disk N.Wire now line.now
             (moment self.old disk.old wire.old) (moment self.new disk.new wire.new)) }
-        ensures puts { OnOk result (PutsFor N.Wire line.now wire.old wire.new self.old.post self.new.post) }
+        ensures puts { OnOk result (PutsFor (IsGiven N.Wire) line.now wire.old wire.new self.old.post self.new.post) }
         ensures ready { OnOk result (IsReady D.Disk disk.new self.new) }
         ensures registry { self.new.registry ≡ self.old.registry }
         ensures waits { OnOk result (self.new.waited ≡ waited_by line.now self.old.waited) }

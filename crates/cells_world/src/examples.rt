@@ -8,6 +8,7 @@ ghost use Rattle.cells_script.specs.declared.answer.Answer.TheVariants.{Accepted
 ghost use Rattle.cells_world.specs.Answers.{answer_of_change, answer_of_range, answer_of_reconcile};
 ghost use Rattle.cells_world.specs.Course.{after_hand, after_packet};
 ghost use Rattle.cells_world.specs.Examples.{answering, changed, committed, denied, granted, lease_of, owned, page_of, recorded};
+ghost use Rattle.cells_world.specs.OnWay.{put_behind};
 ghost use Rattle.cells_world.specs.Packets.{after_put, let_through, spelled};
 ghost use Rattle.cells_world.specs.Post.{armed_with};
 ghost use Rattle.cells_world.specs.Puts.{packet_tagged};
@@ -28,6 +29,13 @@ pub fn each_loss_counts_for_itself()
 pub fn at_0_nothing_is_lost()
     ensures none { (a : WirePacket) → let_through (armed_with 0 (1 ∷ [])) (a ∷ []) ≡ a ∷ [] }
     ensures anew { (a b : WirePacket) → let_through (armed_with 1 (armed_with 0 (2 ∷ []))) (a ∷ b ∷ []) ≡ b ∷ [] }
+{}
+
+/// What is put goes behind the packets on their way, but for one that is lost, whose loss is armed no more.
+pub fn what_is_put_goes_behind()
+    ensures { (a b c : WirePacket) →
+        put_behind (a ∷ b ∷ []) (record { packets = c ∷ []; armed = 2 ∷ 5 ∷ [] })
+        ≡ record { packets = c ∷ a ∷ []; armed = 3 ∷ [] } }
 {}
 
 /// Tags count from 1: where two packets were sent, none has tag 0 or 3.

@@ -17,8 +17,8 @@
 //! A line that comes to an end by a fault or for want of memory told the steps of some first events, and the files stand for the
 //! world behind these, or behind one more (`breaks`).
 //!
-//! That a line waits only where a packet was lost, a count rose or as many packets were taken as a line may take, no clause says
-//! in so many words.
+//! Over a wire that tells, and whose count stood still, a line takes the packets on their way in order, and waits only where it
+//! took as many as a line may take, where a put was lost, or where its own event came to that (`TakesOnWay`).
 #![tactic(auto)]
 
 mod answer;
@@ -39,7 +39,7 @@ pub use examples::{
     a_change_comes_to_its_end, a_recorded_change_is_accepted, another_lease_is_no_answer,
     at_0_nothing_is_lost, each_loss_counts_for_itself, pages_are_followed,
     ranges_and_reconciliations_come_to_their_replies, tags_count_from_1, the_first_reply_counts,
-    the_second_put_is_lost,
+    the_second_put_is_lost, what_is_put_goes_behind,
 };
 pub use fault::{ClusterError, Damage};
 pub use limits::{MOST_TAKES, ROUTER, TAKES_A_LINE};

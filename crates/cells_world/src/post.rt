@@ -51,8 +51,7 @@ fn after_put(alloc: Global, armed: &[u64]) -> Result<Vec<u64>, NoMemory>
 
 // Puts a packet on a wire. A put that failed counts as sent.
 fn put_on<N: Wire>(alloc: Global, wire: &mut N, leg: Leg, bytes: &[u8]) -> Result<(), NoMemory>
-    ensures put { OnOk result (IsTrue N.tells →
-        N.sent wire.new ≡ N.sent wire.old ++ record { leg = leg; bytes = bytes.now } ∷ []) }
+    ensures put { OnOk result (Puts N.Wire wire.old wire.new [] (record { leg = leg; bytes = bytes.now } ∷ [])) }
     ensures handed { IsTrue N.tells → N.handed wire.new ≡ N.handed wire.old }
     ensures later { N.faults wire.old ≤ N.faults wire.new }
 {
@@ -66,6 +65,7 @@ fn put_on<N: Wire>(alloc: Global, wire: &mut N, leg: Leg, bytes: &[u8]) -> Resul
 // A message in this place, as it is sent.
 fn sent_at(alloc: Global, place: u64, message: Message, answers: u64) -> Result<Sent, NoMemory>
     requires room { place < u64.MAX }
+    requires earlier { answers ≤ place }
     requires bounds { IsMessage (message_of message) }
     ensures is { IfOk result (IsSent place) }
     ensures packet { IfOk result (λ s. packet_of s ≡ record { message = message_of message; answers = answers }) }
@@ -174,7 +174,7 @@ impl Post {
         put_on(alloc, wire, leg, bytes)
     }
 
-    /// Sends a message, which answers the packet with this tag, or none at 0: it gets the next tag, is kept, and is put on the
+    /// Sends a message, which answers the packet with this tag, an earlier one, or none at 0: it gets the next tag, is kept, and is put on the
     /// wire, unless it is lost.
     pub fn send<N: Wire>(
         &mut self,
@@ -185,7 +185,8 @@ impl Post {
     ) -> Result<(), NoMemory>
         requires packets { ArePackets self.old }
         requires bounds { IsMessage (message_of message) }
-        ensures sends { OnOk result (Sends N.Wire wire.old wire.new self.old self.new
+        requires earlier { answers ≤ length self.old.sent.items }
+        ensures sends { OnOk result (Sends (Puts N.Wire) wire.old wire.new self.old self.new
             (record { message = message_of message; answers = answers } ∷ [])) }
         ensures packets { OnOk result (ArePackets self.new) }
         ensures handed { IsTrue N.tells → N.handed wire.new ≡ N.handed wire.old }
@@ -209,7 +210,7 @@ impl Post {
         requires packets { ArePackets self.old }
         requires bounds { AreRequests requests.items }
         ensures sends { OnOk result
-            (Sends N.Wire wire.old wire.new self.old self.new (list_map asked_packet requests.items)) }
+            (Sends (Puts N.Wire) wire.old wire.new self.old self.new (list_map asked_packet requests.items)) }
         ensures packets { OnOk result (ArePackets self.new) }
         ensures handed { IsTrue N.tells → N.handed wire.new ≡ N.handed wire.old }
         ensures later { N.faults wire.old ≤ N.faults wire.new }

@@ -1,11 +1,8 @@
-use Rattle.std.proofs.Common.{◌≡◌, ◌≢◌, ◌⊎◌, ◌++◌, IsTrue, List, ℕ, rules, subst}
-use Rattle.cells_edge.specs.Edge.{IsPrefix}
+use Rattle.std.proofs.Common.{◌≢◌, rules, subst}
 use Rattle.cells_cli.specs.declared.init.InitStop.TheVariants.{WriteFault}
 use Rattle.cells_cli.specs.declared.status.Status.{Status}
-use Rattle.cells_cli.specs.declared.status.Status.TheVariants.{Memory, WriteFault as WriteStatus}
 use Rattle.cells_cli.specs.Installed.{status_of}
 use Rattle.cells_cli.specs.Report.{WritesFrontOf}
-use Rattle.cells_cli.specs.Status.{last_line}
 use Rattle.cells_cli.proofs.Reported.{EndsWith}
 use Rattle.cells_cli.proofs.Installed.{fronts, stopped, all_made, ends_init, disk_fails, leaves_by, leaves_done}
 use Rattle.cells_cli.proofs.command.install.Goals as goal

@@ -8,10 +8,9 @@ use Rattle.cells_cli.specs.declared.config.Work.TheVariants.{Answer, Make, Run}
 use Rattle.cells_cli.specs.Lines.{lines_of}
 use Rattle.cells_cli.specs.declared.command.Command.{Command}
 use Rattle.cells_cli.specs.declared.status.Status.{Status}
-use Rattle.cells_cli.specs.declared.status.Status.TheVariants.{Usage, Memory}
+use Rattle.cells_cli.specs.declared.status.Status.TheVariants.{Usage}
 use Rattle.cells_cli.specs.Files.{AreDistinct}
 use Rattle.cells_cli.specs.Installed.{LeavesFiles}
-use Rattle.cells_cli.specs.Service.{start_with}
 use Rattle.cells_cli.specs.declared.config.Work.{Work}
 use Rattle.cells_cli.specs.Report.{asked_by, lines_for, IsReport, TellsConfig}
 use Rattle.cells_cli.proofs.Reported.{EndsWith, at_once, config_ends, config_other}

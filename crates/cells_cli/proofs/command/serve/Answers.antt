@@ -1,13 +1,10 @@
-use Rattle.std.proofs.Common.{◌≡◌, ◌≢◌, ◌⊎◌, ◌++◌, IsTrue, List, ℕ, Err, rules, subst, ap, ◌∙◌}
-use Rattle.cells_edge.specs.Edge.{IsPrefix}
+use Rattle.std.proofs.Common.{◌≢◌, Err, rules, subst, ap, ◌∙◌}
 use Rattle.cells_cli.specs.Lines.{lines_of}
 use Rattle.cells_cli.specs.Service.{start_with}
 use Rattle.cells_cli.specs.declared.replay.Stop.TheVariants.{WriteFault}
 use Rattle.cells_cli.specs.declared.status.Status.{Status}
-use Rattle.cells_cli.specs.declared.status.Status.TheVariants.{Memory, WriteFault as WriteStatus}
 use Rattle.cells_cli.specs.Report.{WritesFrontOf}
 use Rattle.cells_cli.specs.Served.{status_of}
-use Rattle.cells_cli.specs.Status.{last_line}
 use Rattle.cells_cli.proofs.Reported.{EndsWith, fronts, served, ends_lines, own_read, ends_service}
 use Rattle.cells_cli.proofs.command.serve.Goals as goal
 

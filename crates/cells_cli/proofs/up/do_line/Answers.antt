@@ -18,7 +18,7 @@ returns-in-Ok-clause-does g c =
     let before = moment c.args.cluster.now c.args.disk.now c.args.wire.now in
     let after = moment c.line.new.self c.line.new.disk c.line.new.wire in
     let grows = c.in-Ok.ensures.grows in
-    let went = went_line g.D.Disk g.N.Wire before after c.args.number c.now-now.result c.args.line.now c.in-Ok.answer grows c.in-Ok.ensures.registry c.in-Ok.ensures.follows in
+    let went = went_line g.D.Disk g.N.Wire before after c.args.number c.now-now.result c.args.line.now c.in-Ok.answer grows c.in-Ok.ensures.registry c.line.ensures.later.1 c.in-Ok.ensures.follows in
     let notes : c.behind.result.now ≡ grows.notes = c.behind.ensures ∙ new_ones c.args.cluster.now.notes.items grows.notes c.line.new.self.notes.items c.notes-notes.result.now c.notes.result.now c.notes-notes.ensures c.notes.ensures grows.noted in
     let steps : c.behind-in-Ok.result.now ≡ grows.steps = c.behind-in-Ok.ensures ∙ new_ones c.args.cluster.now.trace.items grows.steps c.line.new.self.trace.items c.trace-steps.result.now c.trace.result.now c.trace-steps.ensures c.trace.ensures grows.trace in
     let told = subst (λ (ss : List Transition). Tells g.W.Sink (answered_text c.args.number grows.notes ss c.in-Ok.answer) c.args.out.now c.tell_line.new.out c.tell_line.result) steps
@@ -30,6 +30,10 @@ pub returns-in-Err-clause-does : goal.returns-in-Err-clause-does
 returns-in-Err-clause-does g c =
     let before = moment c.args.cluster.now c.args.disk.now c.args.wire.now in
     let after = moment c.line.new.self c.line.new.disk c.line.new.wire in
+    let steps : c.past-in-Err.result.now ≡ drop (length c.args.cluster.now.trace.items) c.line.new.self.trace.items =
+    c.past-in-Err.ensures ∙ ap (λ (xs : List Transition). drop (length xs) c.trace-in-Err.result.now) c.trace-steps.ensures ∙ ap (drop (length c.args.cluster.now.trace.items)) c.trace-in-Err.ensures in
     let off = broken_off g.W.Sink g.D.Disk g.N.Wire before after c.args.out.now c.tell_end-told.new.out g.met.D.Disk.only_now c.requires.ready
-    (record { number = c.args.number; line = c.args.line.now; notes = c.unwrap_or.result.now; steps = c.unwrap_or-in-Err.result.now }) c.in-Err.error c.tell_end-told.result c.tell_end-told.ensures.told in
+    (record { number = c.args.number; line = c.args.line.now; notes = c.past.result.now; steps = c.past-in-Err.result.now })
+    (record { now = c.now-now.result; later = c.line.ensures.later.1; line = c.in-Err.ensures.breaks; steps = steps })
+    c.in-Err.error c.tell_end-told.result c.tell_end-told.ensures.told in
     subst (λ r. DoesLine g.W.Sink g.D.Disk g.N.Wire c.args.number c.args.line.now before after c.args.out.now c.tell_end-told.new.out r) (sym c.stopped.ensures) off

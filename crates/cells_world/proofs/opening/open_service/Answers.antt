@@ -4,7 +4,7 @@ use Rattle.cell_store.proofs.Opened.{touches_on}
 use Rattle.claim_service.specs.declared.limits.TheConstants.{SERVICE_FILE}
 use Rattle.claim_service.specs.declared.node.TopologyNode.{TopologyNode}
 use Rattle.cells_world.specs.Opening.{FailsTwice, IsServiceEnd}
-use Rattle.cells_world.proofs.Openings.{failed_once, failed_then, service_end, service_end_then, service_once, service_twice}
+use Rattle.cells_world.proofs.Openings.{service_end, service_once}
 use Rattle.cells_world.proofs.opening.open_service.Goals as goal
 
 -- no call of the disk failed

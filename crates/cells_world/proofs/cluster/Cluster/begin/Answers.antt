@@ -5,7 +5,7 @@ use Rattle.std.specs.List.{slice_get}
 use Rattle.cells_world.specs.Answers.{Begins, begun_on_wire}
 use Rattle.cells_world.specs.Lines.{Acts}
 use Rattle.cells_world.specs.Puts.{PutsFor}
-use Rattle.cells_world.specs.Post.{packet_of}
+use Rattle.cells_world.specs.Post.{packet_of, Puts}
 use Rattle.cells_world.proofs.Posted.{items_of}
 use Rattle.cells_world.specs.World.{IsIn}
 use Rattle.cells_world.specs.declared.cluster.Cluster.{Cluster}
@@ -48,4 +48,4 @@ pub returns-in_ok-begin_range-in-Range-clause-begun : goal.returns-in_ok-begin_r
 returns-in_ok-begin_range-in-Range-clause-begun g c = subst (λ l. Begins c.args.now l c.args.self.now c.in_ok-begin_range-in-Range.field-0) (sym c.in-Range.is) (c.in_ok-begin_range-in-Range.ensures.begun c.args.now)
 
 pub returns-in_ok-begin_range-in-Range-clause-puts : goal.returns-in_ok-begin_range-in-Range-clause-puts
-returns-in_ok-begin_range-in-Range-clause-puts g c = subst (λ l. PutsFor g.N.Wire l c.args.wire.now c.begin_range.new.wire c.args.self.now.post c.begin_range.new.self.post) (sym c.in-Range.is) c.in_ok-begin_range-in-Range.ensures.puts
+returns-in_ok-begin_range-in-Range-clause-puts g c = subst (λ l. PutsFor (Puts g.N.Wire) l c.args.wire.now c.begin_range.new.wire c.args.self.now.post c.begin_range.new.self.post) (sym c.in-Range.is) c.in_ok-begin_range-in-Range.ensures.puts

@@ -12,7 +12,7 @@ pub returns-then-not-is_tag-clause-puts : goal.returns-then-not-is_tag-clause-pu
 returns-then-not-is_tag-clause-puts g c =
     let post = c.args.self.now.post in
     let none : is_tag c.args.tag (length (packets_of post)) ≡ false = ap (is_tag c.args.tag) (map_length packet_of post.sent.items ∙ sym (ap length c.sent.ensures)) ∙ sym c.is_tag.ensures ∙ c.if-not-is_tag.true in
-    puts_nothing g.N.Wire (RepeatLine c.args.tag) c.args.wire.now c.args.wire.now post post (none_tagged c.args.tag (packets_of post) none) refl refl (λ tells. refl)
+    puts_nothing g.N.Wire (RepeatLine c.args.tag) c.args.wire.now post post (none_tagged c.args.tag (packets_of post) none) refl refl
 
 -- one has it
 pub returns-clause-puts : goal.returns-clause-puts

@@ -1,14 +1,12 @@
-use Rattle.std.proofs.Common.{◌≡◌, inl, ℕ, List, [], drop, length, IsTrue, refl, sym, ◌∙◌, ap, subst, arith}
+use Rattle.std.proofs.Common.{◌≡◌, inl, ℕ, List, [], drop, length, refl, sym, ◌∙◌, ap, subst, arith}
 use Rattle.std.specs.Prelude.{option_copied, vec_len}
 use Rattle.claim_types.specs.declared.rule.Note.{Note}
 use Rattle.claim_types.specs.declared.step.Transition.{Transition}
 use Rattle.claim_laws.specs.Events.{Event}
-use Rattle.cells_script.specs.declared.answer.Answer.{Answer}
-use Rattle.cells_world.specs.Answers.{answer_by, begun_of, course_of, puts_first}
-use Rattle.cells_world.specs.Course.{reply_of}
-use Rattle.cells_world.specs.Follows.{AreEventsOf, AreEventsOff, Drains}
+use Rattle.cells_world.specs.Answers.{answer_by, course_of}
+use Rattle.cells_world.specs.Follows.{AreEventsOff, FollowsFrom}
 use Rattle.cells_world.specs.Post.{packet_of, packets_of}
-use Rattle.cells_world.specs.World.{Breaks, Goes, at as moment}
+use Rattle.cells_world.specs.World.{Breaks, at as moment}
 use Rattle.cells_world.specs.declared.cluster.Cluster.{Cluster}
 use Rattle.cells_world.proofs.Growing.{grows_noted, grows_on}
 use Rattle.cells_world.proofs.Breaking.{breaks_nothing, on_err}
@@ -38,13 +36,12 @@ returns-clause-follows g c = λ start w order is_in. (
     ∙ ap (λ (t : List Transition). answer_by begun t c.behind-2.result.now (option_copied c.reply.result)) steps
     ∙ ap (λ (t : List Note). answer_by begun (drop (length old.trace.items) new.trace.items) t (option_copied c.reply.result)) notes
     ∙ ap (answer_by begun (drop (length old.trace.items) new.trace.items) (drop (length old.notes.items) new.notes.items)) c.reply.ensures in
-    subst (λ m. (es : List Event) × AreEventsOf old.registry w m c.args.line.now answer es × Goes g.D.Disk g.N.Wire old.registry w before after es
-    × (IsTrue (puts_first (begun_of w m c.args.line.now)) → Drains g.N.Wire c.args.wire.now c.take_behind.new.wire old.takes new.takes)) c.moment-now.ensures
+    subst (λ m. FollowsFrom g.D.Disk g.N.Wire w m c.args.line.now answer before after) c.moment-now.ensures
     (follows g.D.Disk g.N.Wire before mid c.begin.new.wire c.moment-now.result c.args.line.now g.met.D.Disk.only_now c.requires.ready c.begin.ensures.same.registry
     c.in_ok-begun.ensures.acts c.begin.ensures.handed start w order is_in c.course-course.result c.take_behind.new.course after c.in_ok-take_behind.ensures.hands
     begun answer c.in_ok-begun.ensures.begun course
-    c.take_behind.ensures.takes (λ none. c.take_behind.ensures.quiet (c.puts.ensures ∙ none)) (λ puts. c.in_ok-take_behind.ensures.drains (c.puts.ensures ∙ puts)) c.begin.ensures.later c.begin.ensures.same.takes
-    is_answer))
+    c.take_behind.ensures.takes (λ none. c.take_behind.ensures.quiet (c.puts.ensures ∙ none)) (λ puts. c.in_ok-take_behind.ensures.drains (c.puts.ensures ∙ puts)) c.begin.ensures.later c.take_behind.ensures.later.1 c.begin.ensures.same.takes
+    c.in_ok-begun.ensures.puts is_answer))
 
 -- the notes of its own event, and then what packets brought about
 pub returns-clause-grows : goal.returns-clause-grows
@@ -61,8 +58,8 @@ returns-in_err-begun-clause-breaks g c =
     on_err c.from_residual.result (λ start w order is_in. (
       [],
       inl refl,
-      breaks_nothing g.D.Disk (moment c.args.self.now c.args.disk.now c.args.wire.now) (moment c.begin.new.self c.args.disk.now c.begin.new.wire) w
-          g.met.D.Disk.only_now c.requires.ready is_in refl (ap (λ t. t.items) c.begin.ensures.same.trace),
+      breaks_nothing g.D.Disk g.N.Wire (moment c.args.self.now c.args.disk.now c.args.wire.now) (moment c.begin.new.self c.args.disk.now c.begin.new.wire) w
+          g.met.D.Disk.only_now c.requires.ready is_in refl (ap (λ t. t.items) c.begin.ensures.same.trace) c.begin.ensures.handed,
     ))
 
 -- a hand-over came to an end
@@ -72,9 +69,10 @@ returns-in_err-take_behind-clause-breaks g c =
     let old : Cluster = c.args.self.now in
     let before = moment old c.args.disk.now c.args.wire.now in
     let after = moment c.take_behind.new.self c.take_behind.new.disk c.take_behind.new.wire in
-    subst (λ m. (es : List Event) × AreEventsOff w m c.args.line.now es × Breaks g.D.Disk old.registry w before after es) c.moment-now.ensures
+    subst (λ m. (es : List Event) × AreEventsOff w m c.args.line.now es × Breaks g.D.Disk g.N.Wire old.registry w before after es) c.moment-now.ensures
     (breaks_line g.D.Disk g.N.Wire before c.begin.new.self c.begin.new.wire c.moment-now.result c.args.line.now g.met.D.Disk.only_now c.requires.ready c.begin.ensures.same.registry
-    c.in_ok-begun.ensures.acts c.begin.ensures.handed start w order is_in after c.in_err-take_behind.ensures.breaks)))
+    c.in_ok-begun.ensures.acts c.begin.ensures.handed start w order is_in after c.in_err-take_behind.ensures.breaks
+    c.in_ok-begun.begun c.in_ok-begun.ensures.begun c.take_behind.ensures.takes (λ none. c.take_behind.ensures.quiet (c.puts.ensures ∙ none)))))
 
 -- there was no room for the answer
 pub returns-in_err-answer-clause-breaks : goal.returns-in_err-answer-clause-breaks
@@ -83,7 +81,8 @@ returns-in_err-answer-clause-breaks g c =
     let old : Cluster = c.args.self.now in
     let before = moment old c.args.disk.now c.args.wire.now in
     let after = moment c.take_behind.new.self c.take_behind.new.disk c.take_behind.new.wire in
-    subst (λ m. (es : List Event) × AreEventsOff w m c.args.line.now es × Breaks g.D.Disk old.registry w before after es) c.moment-now.ensures
+    subst (λ m. (es : List Event) × AreEventsOff w m c.args.line.now es × Breaks g.D.Disk g.N.Wire old.registry w before after es) c.moment-now.ensures
     (breaks_late g.D.Disk g.N.Wire before c.begin.new.self c.begin.new.wire c.moment-now.result c.args.line.now g.met.D.Disk.only_now c.requires.ready c.begin.ensures.same.registry
     c.in_ok-begun.ensures.acts c.begin.ensures.handed start w order is_in c.course-course.result c.take_behind.new.course after c.in_ok-take_behind.ensures.hands
-    after c.in_ok-take_behind.ensures.ready (c.take_behind.ensures.registry ∙ c.begin.ensures.same.registry) refl refl)))
+    after c.in_ok-take_behind.ensures.ready (c.take_behind.ensures.registry ∙ c.begin.ensures.same.registry) refl refl refl
+    c.in_ok-begun.begun c.in_ok-begun.ensures.begun c.take_behind.ensures.takes (λ none. c.take_behind.ensures.quiet (c.puts.ensures ∙ none)))))

@@ -4,7 +4,7 @@ use Rattle.claim_laws.specs.Nodes.{Agent}
 use Rattle.cells_world.specs.Opening.{AreApart, AreOf, AreToEndFrom, IsNew, IsOneEnd, StaysBeside}
 use Rattle.cells_world.specs.declared.cluster.Cluster.{Cluster}
 use Rattle.cells_world.proofs.Clusters.{cells_end, opened_all, ready_all, still_first}
-use Rattle.cells_world.proofs.Configured.{agent_known, agents_of, apart_of}
+use Rattle.cells_world.proofs.Configured.{agents_of, apart_of}
 use Rattle.cells_world.proofs.Openings.{twice_earlier}
 use Rattle.cells_world.proofs.Reopened.{opens_to}
 use Rattle.cells_world.proofs.cluster.Cluster.open.Goals as goal
@@ -74,7 +74,6 @@ returns-clause-opens g c = λ tells still start w order configured is_of. (
     let are_of = subst (λ l. AreOf l c.in_ok-cells.cells.items) c.cells.ensures.value c.in_ok-cells.ensures.cells in
     opens_to c.args.registry (g.D.Disk.seen c.args.disk.now) opened
     (agents_of c.args.registry c.in_ok-cells.cells.items are_of (apart_of c.args.registry c.cells.ensures.legal))
-    (agent_known c.args.registry c.in_ok-cells.cells.items are_of)
     (λ a there. (c.in_ok-cells.ensures.new.ready a there).agent.store)
     c.in_ok-cells.ensures.new.idle is_new
     (c.in_ok-service.ensures.stands tells (still_first g.D.Disk c.args.registry c.cells.ensures.legal c.args.disk.now c.open_service.new.disk c.open_agents.new.disk c.open_service.ensures.others c.open_agents.ensures.later still))

@@ -1,9 +1,10 @@
 use Rattle.std.proofs.Common.{inl, inr, ◌++◌, [], refl, ◌∙◌, arith}
+use Rattle.cells_world.specs.Post.{IsGiven}
 use Rattle.cells_world.specs.World.{at as moment}
 use Rattle.cells_world.proofs.Breaking.{breaks_then, on_err}
 use Rattle.cells_world.proofs.Growing.{grows_none, grows_on}
 use Rattle.cells_world.proofs.Going.{hands_nothing, hands_on}
-use Rattle.cells_world.proofs.Sending.{sends_nothing, sends_on}
+use Rattle.cells_world.proofs.Sending.{given_then, gives_no_packet, sends_nothing, sends_on}
 use Rattle.cells_world.proofs.cluster.Cluster.take_all.Goals as goal
 
 -- before the first packet nothing happened
@@ -11,7 +12,7 @@ pub loop-init : goal.loop-init
 loop-init g c = record {
   ready = c.requires.ready;
   hands = hands_nothing g.D.Disk g.N.Wire c.args.course.now (moment c.args.self.now c.args.disk.now c.args.wire.now) g.met.D.Disk.only_now c.requires.ready;
-  sends = ([], sends_nothing g.N.Wire c.args.wire.now c.args.wire.now c.args.self.now.post c.args.self.now.post refl refl (λ tells. refl));
+  sends = ([], sends_nothing (IsGiven g.N.Wire) (gives_no_packet g.N.Wire) c.args.wire.now c.args.self.now.post);
   grows = grows_none c.args.self.now c.args.self.now refl refl;
   takes = omega arith;
   registry = refl;
@@ -23,13 +24,13 @@ loop-init g c = record {
 pub returns-then-not-branch-clause-hands : goal.returns-then-not-branch-clause-hands
 returns-then-not-branch-clause-hands g c =
     hands_on g.D.Disk g.N.Wire c.args.course.now c.loop.course c.take_one.new.course (moment c.args.self.now c.args.disk.now c.args.wire.now) (moment c.loop.self c.loop.disk c.loop.wire) (moment c.take_one.new.self c.take_one.new.disk c.take_one.new.wire)
-    c.loop.invariant.registry c.requires.ready.configured c.loop.invariant.hands c.in_ok-take_one.ensures.hands
+    c.loop.invariant.registry c.requires.ready.configured c.loop.invariant.wire_later c.take_one.ensures.later.1 c.loop.invariant.hands c.in_ok-take_one.ensures.hands
 
 pub returns-then-not-branch-clause-sends : goal.returns-then-not-branch-clause-sends
 returns-then-not-branch-clause-sends g c =
     let before = c.loop.invariant.sends in
     let now = c.in_ok-take_one.ensures.sends in
-    (before.0 ++ now.0, sends_on g.N.Wire c.args.wire.now c.loop.wire c.take_one.new.wire c.args.self.now.post c.loop.self.post c.take_one.new.self.post before.0 now.0 before.1 now.1)
+    (before.0 ++ now.0, sends_on (IsGiven g.N.Wire) (given_then g.N.Wire) c.args.wire.now c.loop.wire c.take_one.new.wire c.args.self.now.post c.loop.self.post c.take_one.new.self.post before.0 now.0 before.1 now.1)
 
 -- one packet more
 pub loop-preserved : goal.loop-preserved
@@ -39,8 +40,8 @@ loop-preserved g c =
     record {
       ready = c.in_ok-take_one.ensures.ready;
       hands = hands_on g.D.Disk g.N.Wire c.args.course.now c.loop.course c.take_one.new.course (moment c.args.self.now c.args.disk.now c.args.wire.now) (moment c.loop.self c.loop.disk c.loop.wire) (moment c.take_one.new.self c.take_one.new.disk c.take_one.new.wire)
-          c.loop.invariant.registry c.requires.ready.configured c.loop.invariant.hands c.in_ok-take_one.ensures.hands;
-      sends = (before.0 ++ now.0, sends_on g.N.Wire c.args.wire.now c.loop.wire c.take_one.new.wire c.args.self.now.post c.loop.self.post c.take_one.new.self.post before.0 now.0 before.1 now.1);
+          c.loop.invariant.registry c.requires.ready.configured c.loop.invariant.wire_later c.take_one.ensures.later.1 c.loop.invariant.hands c.in_ok-take_one.ensures.hands;
+      sends = (before.0 ++ now.0, sends_on (IsGiven g.N.Wire) (given_then g.N.Wire) c.args.wire.now c.loop.wire c.take_one.new.wire c.args.self.now.post c.loop.self.post c.take_one.new.self.post before.0 now.0 before.1 now.1);
       grows = grows_on c.args.self.now c.loop.self c.take_one.new.self c.loop.invariant.grows c.in_ok-take_one.ensures.grows;
       takes = let a = c.loop.invariant.takes in let b = c.in_ok-take_one.ensures.given c.if-not-branch.false in omega (arith, a, b);
       registry = c.take_one.ensures.registry ∙ c.loop.invariant.registry;

@@ -1,8 +1,9 @@
 -- What a run of a script comes to, from what its opening and its lines came to.
-use Rattle.std.proofs.Common.{◌≡◌, inl, inr, ◌≤◌, IsTrue, List, [], ◌++◌, length, drop, Some, Result, Ok, Err, refl, sym, ◌∙◌, ap, subst, arith}
+use Rattle.std.proofs.Common.{◌≡◌, ◌⊎◌, inl, inr, ℕ, ◌≤◌, IsTrue, List, [], ◌∷◌, ◌++◌, length, drop, Option, Some, Result, Ok, Err, refl, sym, ◌∙◌, ap, subst, arith}
 use Rattle.std.specs.FinMap as map
 use Rattle.std.proofs.lemmas.List.{append-nil}
 use Rattle.std.proofs.Math.Seq.{drop-append_seam}
+use Rattle.cells_edge.specs.Streams.{WritesAll}
 use Rattle.cells_edge.specs.declared.sink.Sink.{Ghosts as SinkGhosts}
 use Rattle.cells_edge.specs.declared.source.Source.{Ghosts as SourceGhosts}
 use Rattle.cells_edge.specs.declared.wire.Wire.{Ghosts as WireGhosts}
@@ -21,23 +22,23 @@ use Rattle.claim_laws.specs.World.{World}
 use Rattle.claim_laws.proofs.Law.{run-in_order, start-in_order}
 use Rattle.claim_laws.proofs.Opened.{opened_is_start}
 use Rattle.reconciler.specs.Agent.{kept_by}
+use Rattle.cells_world.specs.Cluster.{IsReady}
 use Rattle.cells_world.specs.Opening.{IsNew, Opens, StandsStill}
-use Rattle.cells_world.specs.Lines.{moment_of}
 use Rattle.cells_world.specs.World.{At, at as moment, Breaks, IsIn, IsOf}
 use Rattle.cells_world.specs.declared.cluster.Cluster.{Cluster}
 use Rattle.cells_world.specs.declared.fault.ClusterError.{ClusterError}
 use Rattle.cells_world.specs.declared.fault.ClusterError.TheVariants.{DiskFailed, Memory as NoRoom, Damaged}
 use Rattle.cells_world.specs.declared.fault.Damage.TheVariants.{NotAJournal as NoJournal, BadEntry as RefusedEntry, ConfigLacks as LacksCell, EpochsSpent as SpentEpochs}
 use Rattle.cells_world.proofs.Served.{ready_is_of}
-use Rattle.cells_world.proofs.Tracing.{run_grows}
-use Rattle.cells_cli.specs.Doing.{BreaksIn, Does, EndsSo, HasItsCause, status_of_cluster}
+use Rattle.cells_world.proofs.Further.{run_grows}
+use Rattle.cells_cli.specs.Doing.{AreFirst, AreTold, BreaksIn, Does, EndsBy, EndsSo, HasItsCause, IsWritten, status_of_cluster}
 use Rattle.cells_cli.specs.ScriptLines.{script_lines_of}
 use Rattle.cells_cli.specs.Script.{line_refused, lines_done}
-use Rattle.cells_cli.specs.Told.{Broken, Telling, steps_told}
-use Rattle.cells_cli.specs.Ups.{BreaksBehind, OpensSo, Traces, Ups, WhereOpened, nothing_told}
-use Rattle.cells_cli.specs.Went.{AreOfItems, Brings}
+use Rattle.cells_cli.specs.Told.{Broken, Item, Telling, steps_told}
+use Rattle.cells_cli.specs.Ups.{BreaksBehind, BringsAbout, Done, EndsThere, OneMore, OpensSo, Traces, Ups, WhereOpened, at_opening, nothing_told}
+use Rattle.cells_cli.specs.Went.{AreOfItems, Beside, Brings, Went, beside}
 use Rattle.cells_cli.specs.declared.status.Status.{Status}
-use Rattle.cells_cli.specs.declared.status.Status.TheVariants.{End, Script, Memory}
+use Rattle.cells_cli.specs.declared.status.Status.TheVariants.{End, Script, ReadFault, Memory, DiskFault, NotAJournal, BadEntry, ConfigLacks, EpochsSpent}
 use Rattle.cells_cli.specs.declared.up.UpStop.{UpStop}
 use Rattle.cells_cli.specs.declared.up.UpStop.TheVariants.{Script as ScriptStop, ReadFault as ReadStop, WriteFault as WriteStop, Memory as MemoryStop, Cluster as ClusterStop}
 use Rattle.cells_cli.proofs.Causes.{rose_earlier}
@@ -47,24 +48,30 @@ where_opened End told T t = t
 where_opened (Script line) told T t = t
 where_opened other told T t = inr t
 
+abbrev beside_of : {N : Type 0} → N → List ℕ → ℕ → Beside N
+beside_of wire armed waited = record { wire = wire; armed = armed; waited = waited }
+
 same_agent : (a b : Agent) → Some a ≡ Some b → a ≡ b
 same_agent a b is = cc
 
 -- what the line leaves at which a cluster came to an end, from a world in order that it was in before
-breaks_behind : {D N : Type 0} (d : DiskGhosts D) (n : WireGhosts N) (registry : Registry) (here new : At D N) → IsTrue d.tells → here.cluster.registry ≡ registry → AreCells registry →
-    (start : ClaimMap) (w : World) → IsInOrder registry start w → IsIn here.cluster w → (before : List Transition) → w.trace ≡ before → (broken : Broken) → BreaksIn d n here broken new →
-    BreaksBehind d n registry start w before broken here.disk new.disk here.wire new.wire
-breaks_behind d n registry here new tells same cells start w order is_in before traced broken breaks =
+breaks_behind : {D N : Type 0} (d : DiskGhosts D) (n : WireGhosts N) (shown : Option ℕ) (registry : Registry) (here new : At D N) → here.cluster.registry ≡ registry → AreCells registry →
+    (start : ClaimMap) (w : World) → IsInOrder registry start w → IsIn here.cluster w → (before : List Transition) → w.trace ≡ before → (broken : Broken) → BreaksIn d n shown here broken new →
+    BreaksBehind d n shown registry start w before broken here.disk new.disk (beside here) new.wire
+breaks_behind d n shown registry here new same cells start w order is_in before traced broken breaks =
     let off = breaks.line start w (subst (λ r. IsInOrder r start w) (sym same) order) is_in in
     let b = subst (λ r. Breaks d n r w here new off.0) same off.2 in
     let after = run registry b.told w in
     let order_after = run-in_order registry start (wide_of registry cells) b.told w order in
     let grown = run_grows registry b.told w in
-    let steps : broken.steps ≡ grown.0 =
-    breaks.steps ∙ ap (drop (length here.cluster.trace.items)) (sym b.trace ∙ grown.1 ∙ ap (λ ts. ts ++ grown.0) is_in.trace) ∙ drop-append_seam here.cluster.trace.items grown.0 in
-    let trace : after.trace ≡ before ++ broken.steps = grown.1 ∙ ap (λ ts. ts ++ grown.0) traced ∙ ap (λ ts. before ++ ts) (sym steps) in
+    let steps : broken.steps ≡ grown.trace.more =
+    breaks.steps ∙ ap (drop (length here.cluster.trace.items)) (sym b.trace ∙ grown.trace.is ∙ ap (λ ts. ts ++ grown.trace.more) is_in.trace) ∙ drop-append_seam here.cluster.trace.items grown.trace.more in
+    let notes : broken.notes ≡ grown.notes.more =
+    breaks.notes ∙ ap (drop (length here.cluster.notes.items)) (sym b.notes ∙ grown.notes.is ∙ ap (λ ns. ns ++ grown.notes.more) is_in.notes) ∙ drop-append_seam here.cluster.notes.items grown.notes.more in
+    let trace : after.trace ≡ before ++ broken.steps = grown.trace.is ∙ ap (λ ts. ts ++ grown.trace.more) traced ∙ ap (λ ts. before ++ ts) (sym steps) in
     record {
-      now = moment_of here.cluster breaks.now;
+      clock = breaks.clock;
+      read = breaks.read;
       events = off.0;
       off = off.1;
       told = b.told;
@@ -72,76 +79,143 @@ breaks_behind d n registry here new tells same cells start w order is_in before 
       cut = b.cut;
       few = b.few;
       trace = trace;
+      notes = grown.notes.is ∙ ap (λ ns. w.notes ++ ns) (sym notes);
       legal = subst (IsRun registry start [] 0 after.handed) trace order_after.legal;
       replayed = ap (replay start) (sym trace) ∙ order_after.stands;
       handed = b.handed;
       moments = b.moments;
-      stands = b.stands tells;
+      stands = b.stands;
     }
 
-module _ {S W D N : Type 0} (s : SourceGhosts S) (w : SinkGhosts W) (d : DiskGhosts D) (n : WireGhosts N) (registry : Registry) (script : S) (disk : D) (wire : N) where
+-- what lines brought about that were done, from a world that the cluster was in before
+module _ {D N : Type 0} (d : DiskGhosts D) (n : WireGhosts N) (shown : Option ℕ) (registry : Registry) (w : World) (items : List Item) (a b : At D N) (tells : IsTrue d.tells) (ready : IsReady d b.disk b.cluster) (same : b.cluster.registry ≡ registry) where
+  abbrev pub done_of : Brings d n shown registry w items a b → Done d n shown registry w items a.disk b.disk (beside a) (beside b)
+  done_of b_is = record {
+    events = b_is.events;
+    of_items = b_is.of_items;
+    handed = λ t. b_is.goes.handed t;
+    moments = b_is.goes.moments;
+    stands = λ img is. subst (λ r. IsOf r img (run registry b_is.events w)) same (ready_is_of d b.disk b.cluster (run registry b_is.events w) ready tells b_is.goes.now img is);
+  }
+
+module _ {S W D N : Type 0} (s : SourceGhosts S) (w : SinkGhosts W) (d : DiskGhosts D) (n : WireGhosts N) (shown : Option ℕ) (registry : Registry) (script : S) (disk : D) (wire : N) where
   -- nothing was opened
   module _ (out : W) (disk_now : D) (wire_now : N) where
-    pub no_room : Ups s w d n registry script out out disk disk_now wire wire_now Memory
-    no_room = record { told = nothing_told; lines = λ _. (lines_done 0 (script_lines_of (s.left script)), refl); written = λ t. sym (append-nil (w.written out)); disk_open = disk_now; opened_first = omega arith; traces = λ a b e f g h j. inl refl }
+    none_brought : (status : Status) → ((T : Type 0) → WhereOpened status nothing_told T) → BringsAbout d n shown registry nothing_told disk disk_now wire wire_now status
+    none_brought status where_none = record { disk_open = disk_now; opened_first = omega arith; fails = λ file is. inl refl; traces = λ a b e f g h j. where_none _ }
 
-    pub not_opened : (error : ClusterError) → Ups s w d n registry script out out disk disk_now wire wire_now (status_of_cluster error)
-    not_opened (DiskFailed file) = record { told = nothing_told; lines = λ _. (lines_done 0 (script_lines_of (s.left script)), refl); written = λ t. sym (append-nil (w.written out)); disk_open = disk_now; opened_first = omega arith; traces = λ a b e f g h j. inl refl }
+    none_told : (status : Status) → AreTold (lines_done 0 (script_lines_of (s.left script))) (line_refused 0 (script_lines_of (s.left script))) nothing_told status → IsWritten w nothing_told out out status → ((T : Type 0) → WhereOpened status nothing_told T) →
+        Ups s w d n shown registry script out out disk disk_now wire wire_now status
+    none_told status lines written where_none = record { told = nothing_told; lines = λ _. lines; written = written; brings = none_brought status where_none }
+
+    all_ahead : AreFirst [] (lines_done 0 (script_lines_of (s.left script)))
+    all_ahead = (lines_done 0 (script_lines_of (s.left script)), refl)
+
+    none_written : WritesAll w out out []
+    none_written t = sym (append-nil (w.written out))
+
+    pub no_room : Ups s w d n shown registry script out out disk disk_now wire wire_now Memory
+    no_room = none_told Memory all_ahead none_written (λ T. inl refl)
+
+    pub unread : Ups s w d n shown registry script out out disk disk_now wire wire_now ReadFault
+    unread = none_told ReadFault (refl, all_ahead) none_written (λ T. inl refl)
+
+    pub not_opened : (error : ClusterError) → Ups s w d n shown registry script out out disk disk_now wire wire_now (status_of_cluster error)
+    not_opened (DiskFailed file) = none_told (DiskFault file) all_ahead none_written (λ T. inl refl)
     not_opened NoRoom = no_room
-    not_opened (Damaged file (NoJournal at)) = record { told = nothing_told; lines = λ _. (lines_done 0 (script_lines_of (s.left script)), refl); written = λ t. sym (append-nil (w.written out)); disk_open = disk_now; opened_first = omega arith; traces = λ a b e f g h j. inl refl }
-    not_opened (Damaged file (RefusedEntry index)) = record { told = nothing_told; lines = λ _. (lines_done 0 (script_lines_of (s.left script)), refl); written = λ t. sym (append-nil (w.written out)); disk_open = disk_now; opened_first = omega arith; traces = λ a b e f g h j. inl refl }
-    not_opened (Damaged file (LacksCell cell)) = record { told = nothing_told; lines = λ _. (lines_done 0 (script_lines_of (s.left script)), refl); written = λ t. sym (append-nil (w.written out)); disk_open = disk_now; opened_first = omega arith; traces = λ a b e f g h j. inl refl }
-    not_opened (Damaged file SpentEpochs) = record { told = nothing_told; lines = λ _. (lines_done 0 (script_lines_of (s.left script)), refl); written = λ t. sym (append-nil (w.written out)); disk_open = disk_now; opened_first = omega arith; traces = λ a b e f g h j. inl refl }
+    not_opened (Damaged file (NoJournal at)) = none_told (NotAJournal file at) all_ahead none_written (λ T. inl refl)
+    not_opened (Damaged file (RefusedEntry index)) = none_told (BadEntry file index) all_ahead none_written (λ T. inl refl)
+    not_opened (Damaged file (LacksCell cell)) = none_told (ConfigLacks cell) all_ahead none_written (λ T. inl refl)
+    not_opened (Damaged file SpentEpochs) = none_told (EpochsSpent file) all_ahead none_written (λ T. inl refl)
 
   -- the cluster was opened, and the lines were done
   module _ (cluster : Cluster) (opened : D) (new : At D N) (out out_now : W) (status : Status)
       (same : cluster.registry ≡ registry) (fresh : IsNew cluster) (cells : AreCells cluster.registry)
       (opens : IsTrue d.tells → StandsStill d disk opened → Opens registry (d.seen disk) cluster)
       (later : d.faults opened ≤ d.faults new.disk)
-      (does : Does w d n s.tells (lines_done 0 (script_lines_of (s.left script))) (line_refused 0 (script_lines_of (s.left script))) (moment cluster opened wire) new out out_now status) where
-    traces_of : IsTrue d.tells → StandsStill d disk opened → (start : ClaimMap) (world : World) → IsInOrder registry start world → AreConfigured registry world → IsOf registry (d.seen disk) world → Traces d n registry world does.told opened new.disk wire new.wire status
+      (does : Does w d n shown s.tells (lines_done 0 (script_lines_of (s.left script))) (line_refused 0 (script_lines_of (s.left script))) (moment cluster opened wire) new out out_now status) where
+    abbrev end : EndsBy d n shown does.told (moment cluster opened wire) new status
+    end = does.end
+
+    -- what came behind the last line that was told, from the world behind it
+    module _ (tells : IsTrue d.tells) (start : ClaimMap) (v : World) (order : IsInOrder registry start v) (is_in : IsIn end.here.cluster v) (before : List Transition) (traced : v.trace ≡ before) where
+      same_here : end.here.cluster.registry ≡ registry
+      same_here = end.went.registry ∙ same
+
+      breaks_there : (broken : Broken) → BreaksIn d n shown end.here broken new → BreaksBehind d n shown registry start v before broken end.here.disk new.disk (beside end.here) new.wire
+      breaks_there = breaks_behind d n shown registry end.here new same_here (subst AreCells same cells) start v order is_in before traced
+
+      one_more : (item : Item) → Went d n shown end.here (item ∷ []) new → IsReady d new.disk new.cluster → OneMore d n shown registry v end.here.disk new.disk (beside end.here) new.wire
+      one_more item went ready = record {
+        item = item;
+        there = beside new;
+        wire = refl;
+        done = done_of d n shown registry v (item ∷ []) end.here new tells ready (went.registry ∙ same_here)
+            (subst (λ r. Brings d n shown r v (item ∷ []) end.here new) same_here (went.brings start v (subst (λ r. IsInOrder r start v) (sym same_here) order) is_in));
+      }
+
+      came_behind : EndsThere end.here.disk new.disk end.here.wire new.wire
+          ⊎ OneMore d n shown registry v end.here.disk new.disk (beside end.here) new.wire
+          ⊎ ((broken : Broken) × BreaksBehind d n shown registry start v before broken end.here.disk new.disk (beside end.here) new.wire)
+      came_behind = elim end.behind [
+        | inl none ↦ inl (ap (λ (x : At D N). x.disk) none, ap (λ (x : At D N). x.wire) none)
+        | inr (inl more) ↦ inr (inl (one_more more.0 more.1 more.2))
+        | inr (inr broke) ↦ inr (inr (broke.0, breaks_there broke.0 broke.1))
+      ]
+
+    traces_of : IsTrue d.tells → StandsStill d disk opened → (start : ClaimMap) (world : World) → IsInOrder registry start world → AreConfigured registry world → IsOf registry (d.seen disk) world →
+        Traces d n shown registry world does.told opened new.disk wire new.wire status
     traces_of tells still start world order configured is_of =
         let legal_cells = subst AreCells same cells in
         let o = opens tells still start world order configured is_of in
         let v = o.0 in
         let order_v = start-in_order registry v (opened_is_start registry start world v legal_cells order o.1) in
-        let there = does.went.brings v.claims v (subst (λ r. IsInOrder r v.claims v) (sym same) order_v) o.2 in
-        let b = subst (λ r. Brings d n r v does.told.items (moment cluster opened wire) does.here) same there in
+        let brought = end.went.brings v.claims v (subst (λ r. IsInOrder r v.claims v) (sym same) order_v) o.2 in
+        let b = subst (λ r. Brings d n shown r v does.told.items (moment cluster opened wire) end.here) same brought in
         let after = run registry b.events v in
         let order_after = run-in_order registry v.claims (wide_of registry legal_cells) b.events v order_v in
-        let trace : after.trace ≡ steps_told does.told.items = b.goes.now.trace ∙ does.went.trace ∙ ap (λ (ts : List Transition). ts ++ steps_told does.told.items) fresh.trace in
+        let trace : after.trace ≡ steps_told does.told.items = b.goes.now.trace ∙ end.went.trace ∙ ap (λ (ts : List Transition). ts ++ steps_told does.told.items) fresh.trace in
+        let done = done_of d n shown registry v does.told.items (moment cluster opened wire) end.here tells end.ready (end.went.registry ∙ same) b in
+        let beside_is : beside (moment cluster opened wire) ≡ at_opening wire = ap (λ armed. beside_of wire armed cluster.waited) fresh.armed ∙ ap (beside_of wire []) fresh.waited in
         record {
           opened = v;
           again = o.1;
-          events = b.events;
           fresh = λ cell a is. (
               let found = o.2.only cell a is in
               let own : a ≡ kept_by found.0 = same_agent a (kept_by found.0) (sym is ∙ ap (map.get v.agents) (sym found.2) ∙ (o.2.cells found.0 found.1).agent) in
               ap (λ (x : Agent). x.drawn) own ∙ fresh.drawn found.0 found.1);
-          disk_then = does.here.disk;
-          wire_then = does.here.wire;
-          armed_then = does.here.cluster.post.armed.items;
-          of_items = subst (λ armed. AreOfItems n registry v wire armed does.told.items b.events does.here.wire does.here.cluster.post.armed.items) fresh.armed b.of_items;
+          disk_then = end.here.disk;
+          there = beside end.here;
+          done = record {
+            events = b.events;
+            of_items = subst (λ here. AreOfItems n shown registry v here does.told.items b.events (beside end.here)) beside_is b.of_items;
+            handed = done.handed;
+            moments = done.moments;
+            stands = done.stands;
+          };
           trace = trace;
           legal = subst (λ s0. IsRun registry s0 [] 0 after.handed (steps_told does.told.items)) o.1.claims (subst (IsRun registry v.claims [] 0 after.handed) trace order_after.legal);
           replayed = ap (λ s0. replay s0 (steps_told does.told.items)) (sym o.1.claims) ∙ ap (replay v.claims) (sym trace) ∙ order_after.stands;
-          handed = λ t. b.goes.handed t;
-          moments = b.goes.moments;
-          stands = λ img is. subst (λ r. IsOf r img after) (does.went.registry ∙ same) (ready_is_of d does.here.disk does.here.cluster after does.ready tells b.goes.now img is);
-          later = does.later;
-          between = λ between. (ap (λ (x : At D N). x.disk) (does.ends between), ap (λ (x : At D N). x.wire) (does.ends between));
-          breaks = λ broken is. subst (λ s0. BreaksBehind d n registry s0 after (steps_told does.told.items) broken does.here.disk new.disk does.here.wire new.wire) o.1.claims
-              (breaks_behind d n registry does.here new tells (does.went.registry ∙ same) legal_cells v.claims after order_after b.goes.now (steps_told does.told.items) trace broken (does.breaks broken is));
+          later = end.later;
+          behind = subst (λ s0. EndsThere end.here.disk new.disk end.here.wire new.wire ⊎ OneMore d n shown registry after end.here.disk new.disk (beside end.here) new.wire
+              ⊎ ((broken : Broken) × BreaksBehind d n shown registry s0 after (steps_told does.told.items) broken end.here.disk new.disk (beside end.here) new.wire)) o.1.claims
+              (came_behind tells v.claims after order_after b.goes.now (steps_told does.told.items) trace);
+          between = λ between. (ap (λ (x : At D N). x.disk) (end.between between), ap (λ (x : At D N). x.wire) (end.between between));
+          breaks = λ broken is. subst (λ s0. BreaksBehind d n shown registry s0 after (steps_told does.told.items) broken end.here.disk new.disk (beside end.here) new.wire) o.1.claims
+              (breaks_there tells v.claims after order_after b.goes.now (steps_told does.told.items) trace broken (end.breaks broken is));
         }
 
-    pub ups_of : Ups s w d n registry script out out_now disk new.disk wire new.wire status
+    pub ups_of : Ups s w d n shown registry script out out_now disk new.disk wire new.wire status
     ups_of = record {
       told = does.told;
       lines = does.lines;
       written = does.written;
-      disk_open = opened;
-      opened_first = later;
-      traces = λ tells still start world order configured is_of. where_opened status does.told _ (traces_of tells still start world order configured is_of);
+      brings = record {
+        disk_open = opened;
+        opened_first = later;
+        fails = λ file is. inr (rose_earlier (d.faults opened) (d.faults end.here.disk) (d.faults new.disk) end.went.later.0 (end.fails file is).0);
+        traces = λ tells still start world order configured is_of. where_opened status does.told _ (traces_of tells still start world order configured is_of);
+      };
     }
 
   -- causes, from before the opening

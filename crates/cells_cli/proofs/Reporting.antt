@@ -7,87 +7,81 @@ use Rattle.cells_edge.specs.declared.source.Source.{Ghosts as SourceGhosts}
 use Rattle.cells_edge.specs.declared.wire.Wire.{Ghosts as WireGhosts}
 use Rattle.disk_journal.specs.declared.disk.Disk.{Ghosts as DiskGhosts}
 use Rattle.claim_map.specs.Registry.{Registry}
+use Rattle.claim_laws.specs.World.{World}
 use Rattle.cells_world.specs.declared.fault.ClusterError.TheVariants.{DiskFailed, Memory as NoRoom, Damaged}
 use Rattle.cells_world.specs.declared.fault.Damage.TheVariants.{NotAJournal as NoJournal, BadEntry as RefusedEntry, ConfigLacks as LacksCell, EpochsSpent as SpentEpochs}
 use Rattle.cells_cli.specs.Config.{Job, Configures, does_lines, status_of_config}
 use Rattle.cells_cli.specs.declared.config.ConfigFault.{ConfigFault}
 use Rattle.cells_cli.specs.declared.config.ConfigFault.TheVariants.{Read, Long, Refused, NoSuchCell, Memory as NoSpace}
-use Rattle.cells_cli.specs.Doing.{AreTold, HasItsCause, IsWritten, status_of}
+use Rattle.cells_cli.specs.Doing.{AreTold, HasItsCause, IsBetween, status_of}
 use Rattle.cells_cli.specs.Installed.{DiskFails}
 use Rattle.cells_cli.specs.ScriptLines.{script_lines_of}
 use Rattle.cells_cli.specs.Report.{IsReport, WritesFrontOf}
 use Rattle.cells_cli.specs.Script.{Numbered, line_refused, lines_done}
 use Rattle.cells_cli.specs.Status.{last_line}
 use Rattle.cells_cli.specs.Told.{Telling, telling_text}
-use Rattle.cells_cli.specs.Ups.{EndsUp, EndsUpAt, IsDamaged, IsReportOf, IsUpped, OpensSo, RunsUp, Traces, Ups, WhereOpened, nothing_told}
+use Rattle.cells_cli.specs.Ups.{BringsAbout, EndsUp, EndsUpAt, IsDamaged, IsReportOf, IsUpped, OpensSo, RunsUp, Traces, Ups, WhereOpened, nothing_told}
 use Rattle.cells_cli.specs.declared.status.Status.{Status}
 use Rattle.cells_cli.specs.declared.status.Status.TheVariants.{End, Script, ReadFault, WriteFault, Memory}
 use Rattle.cells_cli.specs.declared.up.UpStop.{UpStop}
 use Rattle.cells_cli.specs.declared.up.UpStop.TheVariants.{Script as ScriptStop, ReadFault as ReadStop, WriteFault as WriteStop, Memory as MemoryStop, Cluster as ClusterStop}
 use Rattle.cells_cli.proofs.Doing.{all_written, cluster_apart, to_first}
+use Rattle.cells_cli.proofs.Opened.{no_room, unread}
 use Rattle.cells_cli.proofs.Reported.{EndsWith, by_end}
 
 whole_report : (tells : Bool) (wanted : List Numbered) (refused : Option ℕ) (told : Telling) (status : Status) (report : List ℕ) → status ≢ WriteFault → report ≡ telling_text told ++ last_line status → IsReportOf tells wanted refused told status report
 whole_report tells wanted refused told WriteFault report apart h = absurd (apart refl)
 whole_report tells wanted refused told other report apart h = h
 
-module _ {D N : Type 0} (d : DiskGhosts D) (n : WireGhosts N) (registry : Registry) (world : Rattle.claim_laws.specs.World.World) (told : Telling) (disk_open disk_now : D) (wire wire_now : N) where
+module _ {D N : Type 0} (d : DiskGhosts D) (n : WireGhosts N) (shown : Option ℕ) (registry : Registry) (told : Telling) (disk disk_now : D) (wire wire_now : N) where
   -- of a run that ended for want of memory, or at a fault of writing, less is said
-  less_in_memory : (status : Status) → Traces d n registry world told disk_open disk_now wire wire_now status → Traces d n registry world told disk_open disk_now wire wire_now Memory
-  less_in_memory status t = record {
+  less_between : (world : World) (disk_open : D) (status other : Status) → (IsBetween other → ⊥) → Traces d n shown registry world told disk_open disk_now wire wire_now status → Traces d n shown registry world told disk_open disk_now wire wire_now other
+  less_between world disk_open status other within t = record {
     opened = t.opened;
     again = t.again;
     fresh = t.fresh;
-    events = t.events;
     disk_then = t.disk_then;
-    wire_then = t.wire_then;
-    armed_then = t.armed_then;
-    of_items = t.of_items;
+    there = t.there;
+    done = t.done;
     trace = t.trace;
     legal = t.legal;
     replayed = t.replayed;
-    handed = t.handed;
-    moments = t.moments;
-    stands = t.stands;
     later = t.later;
-    between = λ h. absurd h;
+    behind = t.behind;
+    between = λ h. absurd (within h);
     breaks = t.breaks;
   }
 
-  less_in_writing : (status : Status) → Traces d n registry world told disk_open disk_now wire wire_now status → Traces d n registry world told disk_open disk_now wire wire_now WriteFault
-  less_in_writing status t = record {
-    opened = t.opened;
-    again = t.again;
-    fresh = t.fresh;
-    events = t.events;
-    disk_then = t.disk_then;
-    wire_then = t.wire_then;
-    armed_then = t.armed_then;
-    of_items = t.of_items;
-    trace = t.trace;
-    legal = t.legal;
-    replayed = t.replayed;
-    handed = t.handed;
-    moments = t.moments;
-    stands = t.stands;
-    later = t.later;
-    between = λ h. absurd h;
-    breaks = t.breaks;
-  }
+  where_less : (status : Status) (T U : Type 0) → (T → U) → WhereOpened status told T → (told ≡ nothing_told) ⊎ U
+  where_less End T U f h = inr (f h)
+  where_less (Script line) T U f h = inr (f h)
+  where_less other T U f h = elim h [ inl none ↦ inl none | inr t ↦ inr (f t) ]
 
-  either : (status : Status) (T U : Type 0) → (T → U) → WhereOpened status told T → (told ≡ nothing_told) ⊎ U
-  either End T U f h = inr (f h)
-  either (Script line) T U f h = inr (f h)
-  either other T U f h = elim h [ inl none ↦ inl none | inr t ↦ inr (f t) ]
+  module _ (own : Status) (brings : BringsAbout d n shown registry told disk disk_now wire wire_now own) where
+    brings_in_memory : BringsAbout d n shown registry told disk disk_now wire wire_now Memory
+    brings_in_memory = record {
+      disk_open = brings.disk_open;
+      opened_first = brings.opened_first;
+      fails = λ file is. absurd cc;
+      traces = λ tells still start world order configured is_of. where_less own _ _ (less_between world brings.disk_open own Memory (λ h. h)) (brings.traces tells still start world order configured is_of);
+    }
 
-module _ {S W D N : Type 0} (s : SourceGhosts S) (w : SinkGhosts W) (d : DiskGhosts D) (n : WireGhosts N) (registry : Registry) (script script_now : S) (out mid now : W) (disk disk_now : D) (wire wire_now : N) where
+    brings_in_writing : BringsAbout d n shown registry told disk disk_now wire wire_now WriteFault
+    brings_in_writing = record {
+      disk_open = brings.disk_open;
+      opened_first = brings.opened_first;
+      fails = λ file is. absurd cc;
+      traces = λ tells still start world order configured is_of. where_less own _ _ (less_between world brings.disk_open own WriteFault (λ h. h)) (brings.traces tells still start world order configured is_of);
+    }
+
+module _ {S W D N : Type 0} (s : SourceGhosts S) (w : SinkGhosts W) (d : DiskGhosts D) (n : WireGhosts N) (shown : Option ℕ) (registry : Registry) (script script_now : S) (out mid now : W) (disk disk_now : D) (wire wire_now : N) where
   abbrev wanted : List Numbered
   wanted = lines_done 0 (script_lines_of (s.left script))
 
   abbrev refused : Option ℕ
   refused = line_refused 0 (script_lines_of (s.left script))
 
-  module _ (own : Status) (apart : own ≢ WriteFault) (ups : Ups s w d n registry script out mid disk disk_now wire wire_now own) (read : IsTrue s.tells → EndsUpAt (s.left script) (s.left script_now) own) (damage : IsDamaged d registry disk disk_now own) where
+  module _ (own : Status) (apart : own ≢ WriteFault) (ups : Ups s w d n shown registry script out mid disk disk_now wire wire_now own) (read : IsTrue s.tells → EndsUpAt (s.left script) (s.left script_now) own) (damage : IsDamaged d registry disk disk_now own) where
     before : WritesAll w out mid (telling_text ups.told)
     before = all_written w ups.told out mid own apart ups.written
 
@@ -95,16 +89,14 @@ module _ {S W D N : Type 0} (s : SourceGhosts S) (w : SinkGhosts W) (d : DiskGho
     behind line all t = all t ∙ ap (λ (x : List ℕ). x ++ line) (before t) ∙ append_assoc (w.written out) (telling_text ups.told) line
 
     abbrev Runs : Status → Type 0
-    Runs status = RunsUp s w d n registry script script_now out now disk disk_now wire wire_now status
+    Runs status = RunsUp s w d n shown registry script script_now out now disk disk_now wire wire_now status
 
     ends_own : WritesAll w mid now (last_line own) → Runs own
     ends_own all = record {
       told = ups.told;
       lines = ups.lines;
       report = λ t. (telling_text ups.told ++ last_line own, whole_report s.tells wanted refused ups.told own (telling_text ups.told ++ last_line own) apart refl, behind (last_line own) all t);
-      disk_open = ups.disk_open;
-      opened_first = ups.opened_first;
-      traces = ups.traces;
+      brings = ups.brings;
       read = read;
       damage = damage;
     }
@@ -114,9 +106,7 @@ module _ {S W D N : Type 0} (s : SourceGhosts S) (w : SinkGhosts W) (d : DiskGho
       told = ups.told;
       lines = λ t. to_first wanted refused ups.told own (ups.lines t);
       report = λ t. (telling_text ups.told ++ last_line Memory, refl, behind (last_line Memory) all t);
-      disk_open = ups.disk_open;
-      opened_first = ups.opened_first;
-      traces = λ tells still start world order configured is_of. either d n registry world ups.told ups.disk_open disk_now wire wire_now own _ _ (less_in_memory d n registry world ups.told ups.disk_open disk_now wire wire_now own) (ups.traces tells still start world order configured is_of);
+      brings = brings_in_memory d n shown registry ups.told disk disk_now wire wire_now own ups.brings;
       read = λ t. tt;
       damage = tt;
     }
@@ -140,9 +130,7 @@ module _ {S W D N : Type 0} (s : SourceGhosts S) (w : SinkGhosts W) (d : DiskGho
             (p.1.0, last_apart p.1.0 p.1.1, (λ t. last_told p.1.0 p.1.1 t), (p.1.2.0, ap (λ (x : List ℕ). telling_text ups.told ++ x) p.1.2.1 ∙ sym (append_assoc (telling_text ups.told) p.0 p.1.2.0))),
             p.2 ∙ ap (λ (x : List ℕ). x ++ p.0) (before t) ∙ append_assoc (w.written out) (telling_text ups.told) p.0,
           ));
-      disk_open = ups.disk_open;
-      opened_first = ups.opened_first;
-      traces = λ tells still start world order configured is_of. either d n registry world ups.told ups.disk_open disk_now wire wire_now own _ _ (less_in_writing d n registry world ups.told ups.disk_open disk_now wire wire_now own) (ups.traces tells still start world order configured is_of);
+      brings = brings_in_writing d n shown registry ups.told disk disk_now wire wire_now own ups.brings;
       read = λ t. tt;
       damage = tt;
     }
@@ -153,14 +141,12 @@ module _ {S W D N : Type 0} (s : SourceGhosts S) (w : SinkGhosts W) (d : DiskGho
         (λ told part. ends_own (told apart)) (λ told part. ends_memory (told (λ h. cc))) (λ told part. ends_writing (part refl))
 
   -- the sink failed in a line
-  pub broke_off : Ups s w d n registry script out now disk disk_now wire wire_now WriteFault → RunsUp s w d n registry script script_now out now disk disk_now wire wire_now WriteFault
+  pub broke_off : Ups s w d n shown registry script out now disk disk_now wire wire_now WriteFault → RunsUp s w d n shown registry script script_now out now disk disk_now wire wire_now WriteFault
   broke_off ups = record {
     told = ups.told;
     lines = ups.lines;
     report = λ t. (let p = ups.written t in (p.0, (Memory, (λ h. cc), ups.lines, (p.1.0 ++ last_line Memory, ap (λ (x : List ℕ). x ++ last_line Memory) p.1.1 ∙ append_assoc p.0 p.1.0 (last_line Memory))), p.2));
-    disk_open = ups.disk_open;
-    opened_first = ups.opened_first;
-    traces = ups.traces;
+    brings = ups.brings;
     read = λ t. tt;
     damage = tt;
   }
@@ -260,17 +246,13 @@ is_report registry script told tells t WriteFault report h is =
 is_report registry script told tells t other report h is = (told, h, is)
 
 -- a configuration that gives no work
-module _ {S W D N : Type 0} (s : SourceGhosts S) (w : SinkGhosts W) (d : DiskGhosts D) (n : WireGhosts N) (registry : Registry) (script : S) (out now : W) (disk : D) (wire : N) where
-  none_told : (own : Status) → AreTold (lines_done 0 (script_lines_of (s.left script))) (line_refused 0 (script_lines_of (s.left script))) nothing_told own → IsWritten w nothing_told out out own
-      → ((T : Type 0) → WhereOpened own nothing_told T) → Ups s w d n registry script out out disk disk wire wire own
-  none_told own lines written where_none = record { told = nothing_told; lines = λ _. lines; written = written; disk_open = disk; opened_first = omega arith; traces = λ a b e f g h j. where_none _ }
-
+module _ {S W D N : Type 0} (s : SourceGhosts S) (w : SinkGhosts W) (d : DiskGhosts D) (n : WireGhosts N) (shown : Option ℕ) (registry : Registry) (script : S) (out now : W) (disk : D) (wire : N) where
   pub config_fails : (fault : ConfigFault) (job : Result Job Status) → Configures (Err fault) job → job ≡ Ok (does_lines registry) → (result : Status) → EndsWith (status_of_config fault) result
-      → (result ≢ WriteFault → WritesAll w out now (last_line result)) → (result ≡ WriteFault → WritesFrontOf w out now (status_of_config fault)) → RunsUp s w d n registry script script out now disk disk wire wire result
+      → (result ≢ WriteFault → WritesAll w out now (last_line result)) → (result ≡ WriteFault → WritesFrontOf w out now (status_of_config fault)) → RunsUp s w d n shown registry script script out now disk disk wire wire result
   config_fails Read job told is result ends all part =
-      finished s w d n registry script script out out now disk disk wire wire ReadFault (λ h. cc) (none_told ReadFault (refl, (lines_done 0 (script_lines_of (s.left script)), refl)) (λ t. sym (append-nil (w.written out))) (λ T. inl refl)) (λ t. tt) tt result ends all part
+      finished s w d n shown registry script script out out now disk disk wire wire ReadFault (λ h. cc) (unread s w d n shown registry script disk wire out disk wire) (λ t. tt) tt result ends all part
   config_fails NoSpace job told is result ends all part =
-      finished s w d n registry script script out out now disk disk wire wire Memory (λ h. cc) (none_told Memory (lines_done 0 (script_lines_of (s.left script)), refl) (λ t. sym (append-nil (w.written out))) (λ T. inl refl)) (λ t. tt) tt result ends all part
+      finished s w d n shown registry script script out out now disk disk wire wire Memory (λ h. cc) (no_room s w d n shown registry script disk wire out disk wire) (λ t. tt) tt result ends all part
   config_fails Long job told is result ends all part = absurd cc
   config_fails (Refused number) job told is result ends all part = absurd cc
   config_fails NoSuchCell job told is result ends all part = absurd cc

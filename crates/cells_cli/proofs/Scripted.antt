@@ -12,7 +12,7 @@ use Rattle.cells_script.specs.Lines.{line_of}
 use Rattle.cells_script.specs.declared.limits.TheConstants.{LINE_BYTES}
 use Rattle.cells_world.specs.Cluster.{IsReady}
 use Rattle.cells_world.specs.World.{At}
-use Rattle.cells_cli.specs.Doing.{AreFirst, Does, SoFar, status_of, status_of_cluster, stop_of}
+use Rattle.cells_cli.specs.Doing.{AreFirst, Does, EndsBy, SoFar, status_of, status_of_cluster, stop_of}
 use Rattle.cells_cli.specs.Lines.{first_refused}
 use Rattle.cells_cli.specs.Refused.{Refuses}
 use Rattle.cells_cli.specs.Script.{Numbered, done_with, is_skipped, line_refused, lines_done, reading_behind, reading_of, reading_with, refused_with}
@@ -24,13 +24,13 @@ use Rattle.cells_cli.specs.declared.lines.TheConstants.{LINES}
 use Rattle.cells_cli.specs.declared.reading.Reading.{Reading}
 use Rattle.cells_cli.specs.declared.reading.Reading.TheVariants.{Skipped, Wanted, Refused}
 use Rattle.cells_cli.specs.declared.status.Status.{Status}
-use Rattle.cells_cli.specs.declared.status.Status.TheVariants.{End}
+use Rattle.cells_cli.specs.declared.status.Status.TheVariants.{End, Memory, ReadFault, Script, WriteFault}
 use Rattle.cells_cli.specs.declared.up.UpStop.{UpStop}
 use Rattle.cells_cli.specs.declared.up.UpStop.TheVariants.{Script as ScriptStop, ReadFault as ReadStop, WriteFault as WriteStop, Memory as MemoryStop, Cluster as ClusterStop}
-use Rattle.cells_cli.proofs.Doing.{all_written, cluster_apart, cluster_ended, to_first}
+use Rattle.cells_cli.proofs.Doing.{all_written, cluster_apart, cluster_ended, ends_behind, ends_there, to_first}
 use Rattle.cells_cli.proofs.Refusals.{here_or_behind}
 use Rattle.cells_cli.proofs.Telling.{numbered_append, all_numbered_append, telling_append}
-use Rattle.cells_cli.proofs.Went.{went_on, went_nowhere}
+use Rattle.cells_cli.proofs.Went.{went_nowhere, went_on}
 
 -- what one line gives is a front of what it gives with those behind it
 behind_of : (number : ℕ) (r : Reading) (rest : List Numbered) → (behind : List Numbered) × (done_with number r [] ++ behind ≡ done_with number r rest)
@@ -61,18 +61,18 @@ RefusesAhead given ahead (TooLong line) = (line_refused given ahead ≡ Some lin
 RefusesAhead given ahead TooMany = (line_refused given ahead ≡ Some (LINES + 1)) × (lines_done given ahead ≡ [])
 RefusesAhead given ahead Read = Unit {0}
 
-module _ {W D N : Type 0} (w : SinkGhosts W) (d : DiskGhosts D) (n : WireGhosts N) (tells : Bool) (wanted : List Numbered) (refused : Option ℕ) where
+module _ {W D N : Type 0} (w : SinkGhosts W) (d : DiskGhosts D) (n : WireGhosts N) (shown : Option ℕ) (tells : Bool) (wanted : List Numbered) (refused : Option ℕ) where
   -- before any line
-  pub so_far_start : (a : At D N) (out : W) (lines : List (List ℕ)) → OnlyNow d → IsReady d a.disk a.cluster → (IsTrue tells → lines_done 0 lines ≡ wanted) → (IsTrue tells → line_refused 0 lines ≡ refused) → SoFar w d n tells wanted refused 0 lines a a out out
+  pub so_far_start : (a : At D N) (out : W) (lines : List (List ℕ)) → OnlyNow d → IsReady d a.disk a.cluster → (IsTrue tells → lines_done 0 lines ≡ wanted) → (IsTrue tells → line_refused 0 lines ≡ refused) → SoFar w d n shown tells wanted refused 0 lines a a out out
   so_far_start a out lines only_now ready wants refuses = record {
     items = [];
-    went = went_nowhere d n a only_now ready;
+    went = went_nowhere d n shown a only_now ready;
     lines = wants;
     refuses = refuses;
     written = λ t. sym (append-nil (w.written out));
   }
 
-  module _ (given : ℕ) (text : List ℕ) (rest : List (List ℕ)) (a b c : At D N) (out mid out_now : W) (so : SoFar w d n tells wanted refused given (text ∷ rest) a b out mid) (few : given < LINES) (configured : AreCells a.cluster.registry) where
+  module _ (given : ℕ) (text : List ℕ) (rest : List (List ℕ)) (a b c : At D N) (out mid out_now : W) (so : SoFar w d n shown tells wanted refused given (text ∷ rest) a b out mid) (few : given < LINES) (configured : AreCells a.cluster.registry) where
     reading_is : reading_behind given text ≡ reading_of text
     reading_is = let test : nat_le LINES given ≡ false = grind (arith, nat_tests) in ap (λ t. cond t Refused (reading_of text)) test
 
@@ -83,10 +83,10 @@ module _ {W D N : Type 0} (w : SinkGhosts W) (d : DiskGhosts D) (n : WireGhosts 
     refuses_at t = ap (λ r. refused_with (given + 1) r (line_refused (given + 1) rest)) (sym reading_is) ∙ so.refuses t
 
     abbrev DoesHere : Status → Type 0
-    DoesHere status = Does w d n true (done_with (given + 1) (reading_of text) []) (refused_with (given + 1) (reading_of text) None) b c mid out_now status
+    DoesHere status = Does w d n shown true (done_with (given + 1) (reading_of text) []) (refused_with (given + 1) (reading_of text) None) b c mid out_now status
 
-    went_there : (items : List Item) (here : At D N) → Went d n b items here → Went d n a (so.items ++ items) here
-    went_there items here went = went_on d n a b here so.items items configured so.went went
+    ends_joined : (told : Telling) (status : Status) → EndsBy d n shown told b c status → EndsBy d n shown (record { items = so.items ++ told.items; broken = told.broken }) a c status
+    ends_joined told status end = ends_behind d n shown so.items told a b c status configured so.went end
 
     -- the text of a line behind that of those before it
     module _ (told : Telling) where
@@ -113,14 +113,14 @@ module _ {W D N : Type 0} (w : SinkGhosts W) (d : DiskGhosts D) (n : WireGhosts 
           (first_more (numbered so.items) (numbered told.items ++ numbered_broken told.broken) (done_with (given + 1) (reading_of text) []) behind.0 (done_with (given + 1) (reading_of text) (lines_done (given + 1) rest)) wanted first behind.1 (lines_at t))
 
     -- a line more was answered
-    pub so_far_more : DoesHere End → SoFar w d n tells wanted refused (given + 1) rest a c out out_now
+    pub so_far_more : DoesHere End → SoFar w d n shown tells wanted refused (given + 1) rest a c out out_now
     so_far_more does =
         let lines = does.lines refl in
         let r = reading_of text in
         let past = passed (given + 1) r (lines_done (given + 1) rest) (line_refused (given + 1) rest) lines.0 in
         record {
           items = so.items ++ does.told.items;
-          went = subst (λ x. Went d n a (so.items ++ does.told.items) x) (does.ends tt) (went_there does.told.items does.here does.went);
+          went = subst (λ x. Went d n shown a (so.items ++ does.told.items) x) (does.end.between tt) (went_on d n shown a b does.end.here so.items does.told.items configured so.went does.end.went);
           lines = λ t.
               ap (λ (l : List Numbered). l ++ lines_done (given + 1) rest) (numbered_append so.items does.told.items ∙ ap (λ (l : List Numbered). numbered so.items ++ l) lines.2)
               ∙ append_assoc (numbered so.items) (done_with (given + 1) r []) (lines_done (given + 1) rest)
@@ -132,19 +132,14 @@ module _ {W D N : Type 0} (w : SinkGhosts W) (d : DiskGhosts D) (n : WireGhosts 
         }
 
     -- the run ended at a line
-    pub ended_here : (stop : UpStop) → DoesHere (status_of stop) → Does w d n tells wanted refused a c out out_now (status_of stop)
+    pub ended_here : (stop : UpStop) → DoesHere (status_of stop) → Does w d n shown tells wanted refused a c out out_now (status_of stop)
     ended_here (ScriptStop k) does =
         let lines = does.lines refl in
         let r = reading_of text in
         let here = stopped_here (given + 1) r (lines_done (given + 1) rest) (line_refused (given + 1) rest) k lines.0 in
         record {
           told = joined does.told;
-          here = does.here;
-          ready = does.ready;
-          went = went_there does.told.items does.here does.went;
-          ends = does.ends;
-          breaks = does.breaks;
-          later = does.later;
+          end = ends_joined does.told (Script k) does.end;
           lines = λ t. (sym (refuses_at t) ∙ here.1, lines.1, numbered_append so.items does.told.items ∙ ap (λ (l : List Numbered). numbered so.items ++ l) (lines.2 ∙ here.0) ∙ lines_at t);
           written = written_all does.told does.written;
         }
@@ -154,12 +149,7 @@ module _ {W D N : Type 0} (w : SinkGhosts W) (d : DiskGhosts D) (n : WireGhosts 
         let behind = behind_of (given + 1) r (lines_done (given + 1) rest) in
         record {
           told = joined does.told;
-          here = does.here;
-          ready = does.ready;
-          went = went_there does.told.items does.here does.went;
-          ends = does.ends;
-          breaks = does.breaks;
-          later = does.later;
+          end = ends_joined does.told ReadFault does.end;
           lines = λ t. (
             lines.0,
             subst (λ (l : List Numbered). AreFirst l wanted) (sym (numbered_append so.items does.told.items))
@@ -169,35 +159,25 @@ module _ {W D N : Type 0} (w : SinkGhosts W) (d : DiskGhosts D) (n : WireGhosts 
         }
     ended_here WriteStop does = record {
       told = joined does.told;
-      here = does.here;
-      ready = does.ready;
-      went = went_there does.told.items does.here does.went;
-      ends = does.ends;
-      breaks = does.breaks;
-      later = does.later;
+      end = ends_joined does.told WriteFault does.end;
       lines = λ t. first_joined does.told t (does.lines refl);
       written = written_front does.told does.written;
     }
     ended_here MemoryStop does = record {
       told = joined does.told;
-      here = does.here;
-      ready = does.ready;
-      went = went_there does.told.items does.here does.went;
-      ends = does.ends;
-      breaks = does.breaks;
-      later = does.later;
+      end = ends_joined does.told Memory does.end;
       lines = λ t. first_joined does.told t (does.lines refl);
       written = written_all does.told does.written;
     }
     ended_here (ClusterStop error) does =
         let own = status_of_cluster error in
         let here = done_with (given + 1) (reading_of text) [] in
-        cluster_ended w d n tells wanted refused a c out out_now (joined does.told) does.here does.ready (went_there does.told.items does.here does.went)
+        cluster_ended w d n shown tells wanted refused a c out out_now (joined does.told) error (ends_joined does.told own does.end)
         (λ t. first_joined does.told t (to_first here (refused_with (given + 1) (reading_of text) None) does.told own (does.lines refl)))
-        (written_all does.told (all_written w does.told mid out_now own (cluster_apart error) does.written)) does.breaks does.later error
+        (written_all does.told (all_written w does.told mid out_now own (cluster_apart error) does.written))
 
   -- the lines ahead are these
-  pub so_far_ahead : (given : ℕ) (ahead now : List (List ℕ)) (a b : At D N) (out mid : W) → SoFar w d n tells wanted refused given ahead a b out mid → (IsTrue tells → ahead ≡ now) → SoFar w d n tells wanted refused given now a b out mid
+  pub so_far_ahead : (given : ℕ) (ahead now : List (List ℕ)) (a b : At D N) (out mid : W) → SoFar w d n shown tells wanted refused given ahead a b out mid → (IsTrue tells → ahead ≡ now) → SoFar w d n shown tells wanted refused given now a b out mid
   so_far_ahead given ahead now a b out mid so same = record {
     items = so.items;
     went = so.went;
@@ -207,15 +187,10 @@ module _ {W D N : Type 0} (w : SinkGhosts W) (d : DiskGhosts D) (n : WireGhosts 
   }
 
   -- no line is left
-  pub ended_all : (given : ℕ) (ahead : List (List ℕ)) (a b : At D N) (out mid : W) → SoFar w d n tells wanted refused given ahead a b out mid → IsReady d b.disk b.cluster → (IsTrue tells → ahead ≡ []) → Does w d n tells wanted refused a b out mid End
+  pub ended_all : (given : ℕ) (ahead : List (List ℕ)) (a b : At D N) (out mid : W) → SoFar w d n shown tells wanted refused given ahead a b out mid → IsReady d b.disk b.cluster → (IsTrue tells → ahead ≡ []) → Does w d n shown tells wanted refused a b out mid End
   ended_all given ahead a b out mid so ready none = record {
     told = record { items = so.items; broken = None };
-    here = b;
-    ready = ready;
-    went = so.went;
-    ends = λ _. refl;
-    breaks = λ broken is. absurd cc;
-    later = omega arith;
+    end = ends_there d n shown so.items a b End ready so.went (λ file is. cc);
     lines = λ t. (
       sym (so.refuses t) ∙ ap (line_refused given) (none t),
       refl,
@@ -225,15 +200,10 @@ module _ {W D N : Type 0} (w : SinkGhosts W) (d : DiskGhosts D) (n : WireGhosts 
   }
 
   -- the lines were given no further
-  pub ended_between : (given : ℕ) (ahead : List (List ℕ)) (a b : At D N) (out mid : W) → SoFar w d n tells wanted refused given ahead a b out mid → IsReady d b.disk b.cluster → (fault : LineFault) → (IsTrue tells → RefusesAhead given ahead fault) → Does w d n tells wanted refused a b out mid (status_of (stop_of fault))
+  pub ended_between : (given : ℕ) (ahead : List (List ℕ)) (a b : At D N) (out mid : W) → SoFar w d n shown tells wanted refused given ahead a b out mid → IsReady d b.disk b.cluster → (fault : LineFault) → (IsTrue tells → RefusesAhead given ahead fault) → Does w d n shown tells wanted refused a b out mid (status_of (stop_of fault))
   ended_between given ahead a b out mid so ready (TooLong line) why = record {
     told = record { items = so.items; broken = None };
-    here = b;
-    ready = ready;
-    went = so.went;
-    ends = λ _. refl;
-    breaks = λ broken is. absurd cc;
-    later = omega arith;
+    end = ends_there d n shown so.items a b (Script line) ready so.went (λ file is. cc);
     lines = λ t. (
       sym (so.refuses t) ∙ (why t).0,
       refl,
@@ -243,12 +213,7 @@ module _ {W D N : Type 0} (w : SinkGhosts W) (d : DiskGhosts D) (n : WireGhosts 
   }
   ended_between given ahead a b out mid so ready TooMany why = record {
     told = record { items = so.items; broken = None };
-    here = b;
-    ready = ready;
-    went = so.went;
-    ends = λ _. refl;
-    breaks = λ broken is. absurd cc;
-    later = omega arith;
+    end = ends_there d n shown so.items a b (Script (LINES + 1)) ready so.went (λ file is. cc);
     lines = λ t. (
       sym (so.refuses t) ∙ (why t).0,
       refl,
@@ -258,12 +223,7 @@ module _ {W D N : Type 0} (w : SinkGhosts W) (d : DiskGhosts D) (n : WireGhosts 
   }
   ended_between given ahead a b out mid so ready Read why = record {
     told = record { items = so.items; broken = None };
-    here = b;
-    ready = ready;
-    went = so.went;
-    ends = λ _. refl;
-    breaks = λ broken is. absurd cc;
-    later = omega arith;
+    end = ends_there d n shown so.items a b ReadFault ready so.went (λ file is. cc);
     lines = λ t. (refl, (lines_done given ahead, so.lines t));
     written = λ t. so.written t ∙ ap (λ (x : List ℕ). w.written out ++ x) (sym (append-nil (items_text so.items)));
   }

@@ -1,5 +1,5 @@
 -- What lines brought about joins.
-use Rattle.std.proofs.Common.{◌≡◌, ℕ, ◌≤◌, List, [], ◌∷◌, ◌++◌, refl, sym, ◌∙◌, ap, subst, append_assoc, arith}
+use Rattle.std.proofs.Common.{◌≡◌, ℕ, ◌≤◌, Bool, true, false, cond, IsTrue, List, [], ◌∷◌, ◌++◌, Option, Some, None, refl, sym, ◌∙◌, ap, subst, append_assoc, arith}
 use Rattle.std.proofs.lemmas.List.{append-nil}
 use Rattle.disk_journal.specs.declared.disk.Disk.{Ghosts}
 use Rattle.disk_journal.proofs.Moments.{OnlyNow, started}
@@ -18,39 +18,47 @@ use Rattle.cells_script.specs.declared.line.Line.{Line}
 use Rattle.cells_world.specs.Cluster.{IsReady}
 use Rattle.cells_world.specs.Ending.{GoesOn}
 use Rattle.cells_world.specs.Follows.{Follows}
-use Rattle.cells_world.specs.Lines.{moment_of}
+use Rattle.cells_world.specs.Lines.{waited_by}
 use Rattle.cells_world.specs.World.{At, IsReached}
 use Rattle.cells_world.proofs.Going.{goes_on, run_append}
 use Rattle.cells_world.proofs.Served.{ready_is_of}
 use Rattle.cells_cli.specs.Told.{Item, notes_told, steps_told}
-use Rattle.cells_cli.specs.Went.{AreOfItems, Brings, Went}
+use Rattle.cells_cli.specs.Went.{AreOfItems, Beside, Brings, IsShown, Went, beside}
 use Rattle.cells_cli.proofs.Telling.{steps_append, notes_append}
 
-module _ {N : Type 0} (n : WireGhosts N) (registry : Registry) where
-  of_items_append : (items more : List Item) (w : World) (wire mid now : N) (armed mid_armed now_armed : List ℕ) (es fs : List Event) → AreOfItems n registry w wire armed items es mid mid_armed →
-      AreOfItems n registry (run registry es w) mid mid_armed more fs now now_armed → AreOfItems n registry w wire armed (items ++ more) (es ++ fs) now now_armed
-  of_items_append [] more w wire mid now armed mid_armed now_armed es fs first second =
-      subst (λ x. AreOfItems n registry w wire armed more (x ++ fs) now now_armed) (sym first.0)
-      (subst (λ k. AreOfItems n registry w wire k more fs now now_armed) first.2
-      (subst (λ x. AreOfItems n registry w x mid_armed more fs now now_armed) first.1
-      (subst (λ x. AreOfItems n registry (run registry x w) mid mid_armed more fs now now_armed) first.0 second)))
-  of_items_append (item ∷ items) more w wire mid now armed mid_armed now_armed es fs first second = (
+-- what is read of a clock that tells is the moment that it shows
+pub is_shown : (tells : Bool) (moment now : ℕ) → (IsTrue tells → now ≡ moment) → IsShown (cond tells (Some moment) None) now
+is_shown true moment now is = is refl
+is_shown false moment now is = tt
+
+-- it shows the same moment still
+pub still_shown : (tells : Bool) (moment moment_now : ℕ) → (IsTrue tells → moment_now ≡ moment) → cond tells (Some moment_now) None ≡ cond tells (Some moment) None
+still_shown true moment moment_now same = ap Some (same refl)
+still_shown false moment moment_now same = refl
+
+module _ {N : Type 0} (n : WireGhosts N) (shown : Option ℕ) (registry : Registry) where
+  of_items_append : (items more : List Item) (w : World) (here mid there : Beside N) (es fs : List Event) → AreOfItems n shown registry w here items es mid →
+      AreOfItems n shown registry (run registry es w) mid more fs there → AreOfItems n shown registry w here (items ++ more) (es ++ fs) there
+  of_items_append [] more w here mid there es fs first second =
+      subst (λ x. AreOfItems n shown registry w here more (x ++ fs) there) (sym first.0)
+      (subst (λ x. AreOfItems n shown registry w x more fs there) first.1
+      (subst (λ x. AreOfItems n shown registry (run registry x w) mid more fs there) first.0 second))
+  of_items_append (item ∷ items) more w here mid there es fs first second = (
     first.0,
     first.1 ++ fs,
     first.2,
-    first.3,
-    ap (λ x. x ++ fs) first.4 ∙ append_assoc first.0 first.1 fs,
-    first.5,
-    of_items_append items more (run registry first.0 w) first.2 mid now first.3 mid_armed now_armed first.1 fs first.6
-        (subst (λ v. AreOfItems n registry v mid mid_armed more fs now now_armed) (ap (λ x. run registry x w) first.4 ∙ run_append registry first.0 first.1 w) second),
+    ap (λ x. x ++ fs) first.3 ∙ append_assoc first.0 first.1 fs,
+    first.4,
+    of_items_append items more (run registry first.0 w) first.2 mid there first.1 fs first.5
+        (subst (λ v. AreOfItems n shown registry v mid more fs there) (ap (λ x. run registry x w) first.3 ∙ run_append registry first.0 first.1 w) second),
   )
 
-module _ {D N : Type 0} (g : Ghosts D) (n : WireGhosts N) where
+module _ {D N : Type 0} (g : Ghosts D) (n : WireGhosts N) (shown : Option ℕ) where
   -- lines, and then others
-  pub went_on : (a b c : At D N) (items more : List Item) → AreCells a.cluster.registry → Went g n a items b → Went g n b more c → Went g n a (items ++ more) c
+  pub went_on : (a b c : At D N) (items more : List Item) → AreCells a.cluster.registry → Went g n shown a items b → Went g n shown b more c → Went g n shown a (items ++ more) c
   went_on a b c items more configured first second = record {
     registry = second.registry ∙ first.registry;
-    later = let one = first.later in let two = second.later in omega (arith, one, two);
+    later = let one = first.later in let two = second.later in (omega (arith, one.0, two.0), omega (arith, one.1, two.1));
     trace = second.trace ∙ ap (λ (t : List Transition). t ++ steps_told more) first.trace ∙ append_assoc a.cluster.trace.items (steps_told items) (steps_told more) ∙ ap (λ (t : List Transition). a.cluster.trace.items ++ t) (sym (steps_append items more));
     notes = second.notes ∙ ap (λ (t : List Note). t ++ notes_told more) first.notes ∙ append_assoc a.cluster.notes.items (notes_told items) (notes_told more) ∙ ap (λ (t : List Note). a.cluster.notes.items ++ t) (sym (notes_append items more));
     brings = λ start w order is_in. (
@@ -59,24 +67,24 @@ module _ {D N : Type 0} (g : Ghosts D) (n : WireGhosts N) where
         let w_then = run registry one.events w in
         let order_then = run-in_order registry start (wide_of registry configured) one.events w order in
         let there = second.brings start w_then (subst (λ r. IsInOrder r start w_then) (sym first.registry) order_then) one.goes.now in
-        let two = subst (λ r. Brings g n r w_then more b c) first.registry there in
+        let two = subst (λ r. Brings g n shown r w_then more b c) first.registry there in
         record {
           events = one.events ++ two.events;
-          of_items = of_items_append n registry items more w a.wire b.wire c.wire a.cluster.post.armed.items b.cluster.post.armed.items c.cluster.post.armed.items one.events two.events one.of_items two.of_items;
+          of_items = of_items_append n shown registry items more w (beside a) (beside b) (beside c) one.events two.events one.of_items two.of_items;
           goes = goes_on g n registry w a b c one.events two.events one.goes two.goes;
         });
   }
 
   -- no line
-  pub went_nowhere : (a : At D N) → OnlyNow g → IsReady g a.disk a.cluster → Went g n a [] a
+  pub went_nowhere : (a : At D N) → OnlyNow g → IsReady g a.disk a.cluster → Went g n shown a [] a
   went_nowhere a only_now ready = record {
     registry = refl;
-    later = omega arith;
+    later = (omega arith, omega arith);
     trace = sym (append-nil a.cluster.trace.items);
     notes = sym (append-nil a.cluster.notes.items);
     brings = λ start w order is_in. record {
       events = [];
-      of_items = (refl, refl, refl);
+      of_items = (refl, refl);
       goes = record {
         now = is_in;
         moments = λ tells. started g a.disk (IsReached a.cluster.registry w []) only_now (λ img is. record { front = []; rest = []; cut = refl; is_of = ready_is_of g a.disk a.cluster w ready tells is_in img is });
@@ -86,8 +94,9 @@ module _ {D N : Type 0} (g : Ghosts D) (n : WireGhosts N) where
   }
 
   -- a line that was answered
-  pub went_line : (a c : At D N) (number now : ℕ) (line : Line) (answer : Answer) (grows : GoesOn a.cluster c.cluster) → c.cluster.registry ≡ a.cluster.registry → n.faults a.wire ≤ n.faults c.wire → Follows g n now line answer a c → Went g n a (record { number = number; line = line; notes = grows.notes; steps = grows.steps; answer = answer } ∷ []) c
-  went_line a c number now line answer grows same later follows = record {
+  pub went_line : (a c : At D N) (number now : ℕ) (line : Line) (answer : Answer) (grows : GoesOn a.cluster c.cluster) → c.cluster.registry ≡ a.cluster.registry → c.cluster.waited ≡ waited_by line a.cluster.waited → IsShown shown now →
+      (g.faults a.disk ≤ g.faults c.disk) × (n.faults a.wire ≤ n.faults c.wire) → Follows g n now line answer a c → Went g n shown a (record { number = number; line = line; notes = grows.notes; steps = grows.steps; answer = answer } ∷ []) c
+  went_line a c number now line answer grows same waited read later follows = record {
     registry = same;
     later = later;
     trace = grows.trace ∙ ap (λ (t : List Transition). a.cluster.trace.items ++ t) (sym (append-nil grows.steps));
@@ -99,18 +108,19 @@ module _ {D N : Type 0} (g : Ghosts D) (n : WireGhosts N) where
           of_items = (
             it.0,
             [],
-            c.wire,
-            c.cluster.post.armed.items,
+            beside c,
             sym (append-nil it.0),
             record {
-              now = moment_of a.cluster now;
+              clock = now;
+              read = read;
               are = it.1;
               steps = it.2.now.trace ∙ grows.trace ∙ ap (λ (t : List Transition). t ++ grows.steps) (sym is_in.trace);
               notes = it.2.now.notes ∙ grows.noted ∙ ap (λ (t : List Note). t ++ grows.notes) (sym is_in.notes);
-              later = later;
+              waited = waited;
+              later = later.1;
               took = it.3;
             },
-            (refl, refl, refl),
+            (refl, refl),
           );
           goes = it.2;
         });

@@ -1,9 +1,10 @@
 -- What doing the lines of a script comes to, by how it ended.
-use Rattle.std.specs.Prelude.{◌≡◌, ℕ, ◌+◌, ◌≤◌, Bool, true, IsTrue, List, [], ◌∷◌, ◌++◌, length, drop, Option, Some, None, Result, Ok, Err}
+use Rattle.std.specs.Prelude.{◌≡◌, ◌⊎◌, ℕ, ◌+◌, ◌≤◌, Bool, true, IsTrue, List, [], ◌∷◌, ◌++◌, length, drop, Option, Some, None, Result, Ok, Err}
 use Rattle.cells_edge.specs.Streams.{WritesAll, WritesFront, SinkFails, SourceFails}
 use Rattle.cells_edge.specs.declared.sink.Sink.{Ghosts as SinkGhosts}
 use Rattle.cells_edge.specs.declared.source.Source.{Ghosts as SourceGhosts}
 use Rattle.cells_edge.specs.declared.wire.Wire.{Ghosts as WireGhosts}
+use Rattle.disk_journal.specs.Effects.{FailedAt}
 use Rattle.disk_journal.specs.declared.disk.Disk.{Ghosts as DiskGhosts}
 use Rattle.cells_script.specs.declared.line.Line.{Line}
 use Rattle.cells_world.specs.Cluster.{IsReady, IsEndOf}
@@ -15,7 +16,7 @@ use Rattle.cells_world.specs.declared.fault.Damage.TheVariants.{NotAJournal as N
 use Rattle.cells_cli.specs.ScriptLines.{script_lines_of}
 use Rattle.cells_cli.specs.Script.{Numbered, done_with, lines_done, line_refused, reading_of, refused_with}
 use Rattle.cells_cli.specs.Told.{Broken, Item, Telling, items_text, numbered, numbered_broken, telling_text}
-use Rattle.cells_cli.specs.Went.{Went}
+use Rattle.cells_cli.specs.Went.{IsShown, Went}
 use Rattle.cells_cli.specs.declared.lines.LineFault.{LineFault}
 use Rattle.cells_cli.specs.declared.lines.LineFault.TheVariants.{TooLong, TooMany, Read}
 use Rattle.cells_cli.specs.declared.lines.TheConstants.{LINES}
@@ -86,44 +87,58 @@ abbrev pub IsWritten : {W : Type 0} → SinkGhosts W → Telling → W → W →
 IsWritten w told out out_now WriteFault = WritesFront w out out_now (telling_text told)
 IsWritten w told out out_now other = WritesAll w out out_now (telling_text told)
 
--- What the line leaves at which a cluster came to an end: what its error leaves, and the steps told of it are those that came behind the ones before.
-pub record BreaksIn {D N : Type 0} (d : DiskGhosts D) (n : WireGhosts N) (old : At D N) (broken : Broken) (new : At D N) : Type 0 where
-  pub now : ℕ
+-- What the line leaves at which a cluster came to an end, at the moment that the clock showed: what its error leaves, and the steps and notes told of it are those
+-- that came behind the ones before.
+pub record BreaksIn {D N : Type 0} (d : DiskGhosts D) (n : WireGhosts N) (shown : Option ℕ) (old : At D N) (broken : Broken) (new : At D N) : Type 0 where
+  pub clock : ℕ
+  pub read : IsShown shown clock
   pub later : n.faults old.wire ≤ n.faults new.wire
-  pub line : BreaksLine d n now broken.line old new
+  pub line : BreaksLine d n clock broken.line old new
   pub steps : broken.steps ≡ drop (length old.cluster.trace.items) new.cluster.trace.items
+  pub notes : broken.notes ≡ drop (length old.cluster.notes.items) new.cluster.notes.items
 
--- What doing lines came to: what is told of them, and what they brought about.
-pub record Does {W D N : Type 0} (w : SinkGhosts W) (d : DiskGhosts D) (n : WireGhosts N) (tells : Bool) (wanted : List Numbered) (refused : Option ℕ) (old new : At D N) (out out_now : W) (status : Status) : Type 0 where
-  pub told : Telling
-  -- the moment at which the last line ended that was answered
+-- What came behind the last line that was answered and told: nothing, a line that was answered and could not be told, or one at which the cluster came to an end.
+abbrev pub ComesBehind : {D N : Type 0} → DiskGhosts D → WireGhosts N → Option ℕ → At D N → At D N → Type 0
+ComesBehind d n shown here new =
+    (here ≡ new) ⊎ ((item : Item) × Went d n shown here (item ∷ []) new × IsReady d new.disk new.cluster) ⊎ ((broken : Broken) × BreaksIn d n shown here broken new)
+
+-- How doing lines ended of which this is told.
+pub record EndsBy {D N : Type 0} (d : DiskGhosts D) (n : WireGhosts N) (shown : Option ℕ) (told : Telling) (old new : At D N) (status : Status) : Type 0 where
+  -- the moment at which the last line ended that was answered and told
   pub here : At D N
   pub ready : IsReady d here.disk here.cluster
-  pub went : Went d n old told.items here
-  pub ends : IsBetween status → here ≡ new
-  pub breaks : (broken : Broken) → told.broken ≡ Some broken → BreaksIn d n here broken new
+  pub went : Went d n shown old told.items here
   pub later : n.faults here.wire ≤ n.faults new.wire
+  pub behind : ComesBehind d n shown here new
+  pub between : IsBetween status → here ≡ new
+  pub breaks : (broken : Broken) → told.broken ≡ Some broken → BreaksIn d n shown here broken new
+  pub fails : (file : ℕ) → status ≡ DiskFault file → FailedAt d file here.disk new.disk
+
+-- What doing lines came to: what is told of them and written, and how they ended.
+pub record Does {W D N : Type 0} (w : SinkGhosts W) (d : DiskGhosts D) (n : WireGhosts N) (shown : Option ℕ) (tells : Bool) (wanted : List Numbered) (refused : Option ℕ) (old new : At D N) (out out_now : W) (status : Status) : Type 0 where
+  pub told : Telling
+  pub end : EndsBy d n shown told old new status
   pub lines : IsTrue tells → AreTold wanted refused told status
   pub written : IsWritten w told out out_now status
 
 -- of one line
-abbrev pub DoesLine : {W D N : Type 0} → SinkGhosts W → DiskGhosts D → WireGhosts N → ℕ → Line → At D N → At D N → W → W → Result (Unit {0}) UpStop → Type 0
-DoesLine w d n number line old new out out_now result = Does w d n true (record { number = number; line = line } ∷ []) None old new out out_now (ended result)
+abbrev pub DoesLine : {W D N : Type 0} → SinkGhosts W → DiskGhosts D → WireGhosts N → Option ℕ → ℕ → Line → At D N → At D N → W → W → Result (Unit {0}) UpStop → Type 0
+DoesLine w d n shown number line old new out out_now result = Does w d n shown true (record { number = number; line = line } ∷ []) None old new out out_now (ended result)
 
 -- of the bytes of one line
-abbrev pub DoesText : {W D N : Type 0} → SinkGhosts W → DiskGhosts D → WireGhosts N → ℕ → List ℕ → At D N → At D N → W → W → Result (Unit {0}) UpStop → Type 0
-DoesText w d n number text old new out out_now result =
-    Does w d n true (done_with number (reading_of text) []) (refused_with number (reading_of text) None) old new out out_now (ended result)
+abbrev pub DoesText : {W D N : Type 0} → SinkGhosts W → DiskGhosts D → WireGhosts N → Option ℕ → ℕ → List ℕ → At D N → At D N → W → W → Result (Unit {0}) UpStop → Type 0
+DoesText w d n shown number text old new out out_now result =
+    Does w d n shown true (done_with number (reading_of text) []) (refused_with number (reading_of text) None) old new out out_now (ended result)
 
 -- of all lines of a script
-abbrev pub DoesScript : {S W D N : Type 0} → SourceGhosts S → SinkGhosts W → DiskGhosts D → WireGhosts N → S → At D N → At D N → W → W → Result (Unit {0}) UpStop → Type 0
-DoesScript s w d n script old new out out_now result =
-    Does w d n s.tells (lines_done 0 (script_lines_of (s.left script))) (line_refused 0 (script_lines_of (s.left script))) old new out out_now (ended result)
+abbrev pub DoesScript : {S W D N : Type 0} → SourceGhosts S → SinkGhosts W → DiskGhosts D → WireGhosts N → Option ℕ → S → At D N → At D N → W → W → Result (Unit {0}) UpStop → Type 0
+DoesScript s w d n shown script old new out out_now result =
+    Does w d n shown s.tells (lines_done 0 (script_lines_of (s.left script))) (line_refused 0 (script_lines_of (s.left script))) old new out out_now (ended result)
 
 -- So far all lines were answered: with those ahead, where so many stand before them, they are all that were wanted.
-pub record SoFar {W D N : Type 0} (w : SinkGhosts W) (d : DiskGhosts D) (n : WireGhosts N) (tells : Bool) (wanted : List Numbered) (refused : Option ℕ) (given : ℕ) (ahead : List (List ℕ)) (old now : At D N) (out out_now : W) : Type 0 where
+pub record SoFar {W D N : Type 0} (w : SinkGhosts W) (d : DiskGhosts D) (n : WireGhosts N) (shown : Option ℕ) (tells : Bool) (wanted : List Numbered) (refused : Option ℕ) (given : ℕ) (ahead : List (List ℕ)) (old now : At D N) (out out_now : W) : Type 0 where
   pub items : List Item
-  pub went : Went d n old items now
+  pub went : Went d n shown old items now
   pub lines : IsTrue tells → numbered items ++ lines_done given ahead ≡ wanted
   pub refuses : IsTrue tells → line_refused given ahead ≡ refused
   pub written : WritesAll w out out_now (items_text items)

@@ -103,9 +103,9 @@ Installs a w d words config out out_now disk disk_now status =
     TellsConfig a words → IsTrue d.tells → (files : List ℕ) → job_of (command_of words) (a.left config) ≡ Ok (makes_files files) → LeavesFiles w d files out out_now disk disk_now status
 
 -- the script is done over the service and the cells of the configuration that the words ask for
-abbrev pub RunsUpBy : {A B W D N : Type 0} → SourceGhosts A → SourceGhosts B → SinkGhosts W → DiskGhosts D → WireGhosts N → List (String Global) → A → B → B → W → W → D → D → N → N → Status → Type 0
-RunsUpBy a b w d n words config script script_now out out_now disk disk_now wire wire_now status =
-    TellsConfig a words → (registry : Registry) → job_of (command_of words) (a.left config) ≡ Ok (does_lines registry) → RunsUp b w d n registry script script_now out out_now disk disk_now wire wire_now status
+abbrev pub RunsUpBy : {A B W D N : Type 0} → SourceGhosts A → SourceGhosts B → SinkGhosts W → DiskGhosts D → WireGhosts N → Option ℕ → List (String Global) → A → B → B → W → W → D → D → N → N → Status → Type 0
+RunsUpBy a b w d n shown words config script script_now out out_now disk disk_now wire wire_now status =
+    TellsConfig a words → (registry : Registry) → job_of (command_of words) (a.left config) ≡ Ok (does_lines registry) → RunsUp b w d n shown registry script script_now out out_now disk disk_now wire wire_now status
 
 -- the configuration could not be read: no line was answered, and the report is the line that says so
 pub record FailsToStart {A B W : Type 0} (a : SourceGhosts A) (w : SinkGhosts W) (words : List (String Global)) (config config_now : A) (script script_now : B) (out out_now : W) : Type 0 where

@@ -1,6 +1,7 @@
 -- What a run of a script over the service and its cells comes to.
-use Rattle.std.specs.Prelude.{◌≡◌, ◌≢◌, ◌⊎◌, ℕ, ◌≤◌, Bool, IsTrue, List, [], ◌++◌, length, Option, None, Some, Err}
+use Rattle.std.specs.Prelude.{◌≡◌, ◌≢◌, ◌⊎◌, ℕ, ◌≤◌, Bool, IsTrue, List, [], ◌∷◌, ◌++◌, length, Option, None, Some, Err}
 use Rattle.std.specs.FinMap as map
+use Rattle.cells_base.specs.Causes.{Rose}
 use Rattle.cells_edge.specs.Edge.{IsPrefix}
 use Rattle.cells_edge.specs.Streams.{Writes}
 use Rattle.cells_edge.specs.declared.sink.Sink.{Ghosts as SinkGhosts}
@@ -22,7 +23,8 @@ use Rattle.claim_laws.specs.World.{World}
 use Rattle.cells_world.specs.Opening.{IsDamage, IsOpenEnd, StandsStill}
 use Rattle.cells_world.specs.Follows.{AreEventsOff}
 use Rattle.cells_world.specs.OnWay.{AreGiven}
-use Rattle.cells_world.specs.World.{IsOf, IsOfEither, IsReached}
+use Rattle.cells_world.specs.Lines.{moment_behind}
+use Rattle.cells_world.specs.World.{IsOf, IsReached, StandsOrFailed}
 use Rattle.cells_world.specs.declared.fault.ClusterError.{ClusterError}
 use Rattle.cells_world.specs.declared.fault.Damage.{Damage}
 use Rattle.cells_world.specs.declared.fault.Damage.TheVariants.{NotAJournal as NoJournal, BadEntry as RefusedEntry, ConfigLacks as LacksCell, EpochsSpent as SpentEpochs}
@@ -30,9 +32,9 @@ use Rattle.cells_cli.specs.Doing.{AreTold, IsBetween, IsWritten}
 use Rattle.cells_cli.specs.ScriptLines.{script_lines_of}
 use Rattle.cells_cli.specs.Script.{Numbered, lines_done, line_refused}
 use Rattle.cells_cli.specs.Status.{last_line}
-use Rattle.cells_cli.specs.Told.{Broken, Telling, steps_told, telling_text}
+use Rattle.cells_cli.specs.Told.{Broken, Item, Telling, steps_told, telling_text}
 use Rattle.claim_types.specs.declared.step.Transition.{Transition}
-use Rattle.cells_cli.specs.Went.{AreOfItems}
+use Rattle.cells_cli.specs.Went.{AreOfItems, Beside, IsShown}
 use Rattle.cells_cli.specs.declared.status.Status.{Status}
 use Rattle.cells_cli.specs.declared.status.Status.TheVariants.{End, Script, ReadFault, WriteFault, Memory, DiskFault, NotAJournal, BadEntry, ConfigLacks, EpochsSpent}
 
@@ -44,48 +46,73 @@ nothing_told = record { items = []; broken = None }
 abbrev pub HandsThese : {N : Type 0} → WireGhosts N → Registry → World → List Event → N → N → Type 0
 HandsThese n registry w events wire wire_now = IsTrue n.tells → (given : List WirePacket) × (n.handed wire_now ≡ n.handed wire ++ given) × AreGiven registry w given events
 
--- What the line leaves at which the run ended, behind this world: the steps that are told of it are those of some first of its events, all but the last
--- at most, and with those told before they are a run of legal steps; the packets of its events are those that the wire handed over; at each moment the
--- files stood for a world that first events lead to, and at the end for the one behind the steps that are told, or behind one event more.
-pub record BreaksBehind {D N : Type 0} (d : DiskGhosts D) (n : WireGhosts N) (registry : Registry) (start : ClaimMap) (w : World) (before : List Transition) (broken : Broken) (disk disk_now : D) (wire wire_now : N) : Type 0 where
-  pub now : ℕ
+-- Lines that were done from a world on: what they brought about, and what they left.
+pub record Done {D N : Type 0} (d : DiskGhosts D) (n : WireGhosts N) (shown : Option ℕ) (registry : Registry) (w : World) (items : List Item) (disk disk_then : D) (here there : Beside N) : Type 0 where
   pub events : List Event
-  pub off : AreEventsOff w now broken.line events
+  pub of_items : AreOfItems n shown registry w here items events there
+  pub handed : HandsThese n registry w events here.wire there.wire
+  pub moments : LeavesOnly d disk disk_then (IsReached registry w events)
+  pub stands : (img : Image) → IsImage (d.may_leave disk_then) img → IsOf registry img (run registry events w)
+
+-- What the line leaves at which the cluster came to an end, behind this world: the steps and notes that are told of it are those of some first of its events, all
+-- but the last at most, and with the steps told before they are a run of legal ones; the packets of its events are those that the wire handed over; at each
+-- moment the files stood for a world that first events lead to, and at the end for the one behind the steps that are told, or, where the disk's count of faults
+-- rose in this line, behind one event more.
+pub record BreaksBehind {D N : Type 0} (d : DiskGhosts D) (n : WireGhosts N) (shown : Option ℕ) (registry : Registry) (start : ClaimMap) (w : World) (before : List Transition) (broken : Broken) (disk disk_now : D) (here : Beside N) (wire_now : N) : Type 0 where
+  pub clock : ℕ
+  pub read : IsShown shown clock
+  pub events : List Event
+  pub off : AreEventsOff w (moment_behind here.waited clock) broken.line events
   pub told : List Event
   pub more : List Event
   pub cut : told ++ more ≡ events
   pub few : length more ≤ 1
   pub trace : (run registry told w).trace ≡ before ++ broken.steps
+  pub notes : (run registry told w).notes ≡ w.notes ++ broken.notes
   pub legal : IsRun registry start [] 0 (run registry told w).handed (before ++ broken.steps)
   pub replayed : replay start (before ++ broken.steps) ≡ (run registry told w).claims
-  pub handed : HandsThese n registry w events wire wire_now
+  pub handed : HandsThese n registry w events here.wire wire_now
   pub moments : LeavesOnly d disk disk_now (IsReached registry w events)
-  pub stands : (img : Image) → IsImage (d.may_leave disk_now) img → IsOfEither registry (run registry told w) (run registry events w) img
+  pub stands : StandsOrFailed d registry (run registry told w) (run registry events w) disk disk_now
+
+-- nothing came behind: the disk and the wire are as they were
+abbrev pub EndsThere : {D N : Type 0} → D → D → N → N → Type 0
+EndsThere disk disk_now wire wire_now = (disk ≡ disk_now) × (wire ≡ wire_now)
+
+-- one line more was done, which could not be told
+pub record OneMore {D N : Type 0} (d : DiskGhosts D) (n : WireGhosts N) (shown : Option ℕ) (registry : Registry) (w : World) (disk disk_now : D) (here : Beside N) (wire_now : N) : Type 0 where
+  pub item : Item
+  pub there : Beside N
+  pub wire : there.wire ≡ wire_now
+  pub done : Done d n shown registry w (item ∷ []) disk disk_now here there
+
+-- what stands beside the nodes once they were opened: nothing is armed, and nothing was waited
+abbrev pub at_opening : {N : Type 0} → N → Beside N
+at_opening wire = record { wire = wire; armed = []; waited = 0 }
 
 -- The transitions that are told are a run of legal steps from the claim map of a world that the files stood for: every node was opened again, with nothing
 -- drawn, and then came the events of the lines, in order; each line's answer, steps and notes are what its events bring. The packets of the events are those that
 -- the wire handed over. At each moment since the files were opened they stood for a world that first events lead to, and behind the last line that was
--- answered for the one behind them all. Where the run ended between two lines, that is its end; where it ended in a line, the files stand for the world
--- behind the steps that are told of this, or behind one event more.
-pub record Traces {D N : Type 0} (d : DiskGhosts D) (n : WireGhosts N) (registry : Registry) (w : World) (told : Telling) (disk_open disk_now : D) (wire wire_now : N) (status : Status) : Type 0 where
+-- answered and told for the one behind them all. Behind that came nothing, where the run ended between two lines; or one line more, which was answered and
+-- could not be told, or at which the cluster came to an end.
+pub record Traces {D N : Type 0} (d : DiskGhosts D) (n : WireGhosts N) (shown : Option ℕ) (registry : Registry) (w : World) (told : Telling) (disk_open disk_now : D) (wire wire_now : N) (status : Status) : Type 0 where
   pub opened : World
   pub again : IsReopened w opened
   pub fresh : (cell : ℕ) (a : Agent) → map.get opened.agents cell ≡ Some a → a.drawn ≡ 0
-  pub events : List Event
-  -- the disk, the wire and the losses armed, as the last line left them that was answered
+  -- the disk, and what stands beside the nodes, as the last line left them that was answered and told
   pub disk_then : D
-  pub wire_then : N
-  pub armed_then : List ℕ
-  pub of_items : AreOfItems n registry opened wire [] told.items events wire_then armed_then
-  pub trace : (run registry events opened).trace ≡ steps_told told.items
-  pub legal : IsRun registry w.claims [] 0 (run registry events opened).handed (steps_told told.items)
-  pub replayed : replay w.claims (steps_told told.items) ≡ (run registry events opened).claims
-  pub handed : HandsThese n registry opened events wire wire_then
-  pub moments : LeavesOnly d disk_open disk_then (IsReached registry opened events)
-  pub stands : (img : Image) → IsImage (d.may_leave disk_then) img → IsOf registry img (run registry events opened)
-  pub later : n.faults wire_then ≤ n.faults wire_now
-  pub between : IsBetween status → (disk_then ≡ disk_now) × (wire_then ≡ wire_now)
-  pub breaks : (broken : Broken) → told.broken ≡ Some broken → BreaksBehind d n registry w.claims (run registry events opened) (steps_told told.items) broken disk_then disk_now wire_then wire_now
+  pub there : Beside N
+  pub done : Done d n shown registry opened told.items disk_open disk_then (at_opening wire) there
+  pub trace : (run registry done.events opened).trace ≡ steps_told told.items
+  pub legal : IsRun registry w.claims [] 0 (run registry done.events opened).handed (steps_told told.items)
+  pub replayed : replay w.claims (steps_told told.items) ≡ (run registry done.events opened).claims
+  pub later : n.faults there.wire ≤ n.faults wire_now
+  pub behind : EndsThere disk_then disk_now there.wire wire_now
+      ⊎ OneMore d n shown registry (run registry done.events opened) disk_then disk_now there wire_now
+      ⊎ ((broken : Broken) × BreaksBehind d n shown registry w.claims (run registry done.events opened) (steps_told told.items) broken disk_then disk_now there wire_now)
+  pub between : IsBetween status → EndsThere disk_then disk_now there.wire wire_now
+  pub breaks : (broken : Broken) → told.broken ≡ Some broken →
+      BreaksBehind d n shown registry w.claims (run registry done.events opened) (steps_told told.items) broken disk_then disk_now there wire_now
 
 -- so it is of a run that got so far that its nodes were opened: of one that came to the end of the script or to a line that is refused, or told anything
 abbrev pub WhereOpened : Status → Telling → Type 0 → Type 0
@@ -93,18 +120,24 @@ WhereOpened End told T = T
 WhereOpened (Script line) told T = T
 WhereOpened other told T = (told ≡ nothing_told) ⊎ T
 
--- What a run comes to: what is told of its lines and written, and, where the disk tells its content and its count of faults stood still until
--- the files were opened, the transitions told are such a run, from any world in order that the files stood for.
-pub record Ups {S W D N : Type 0} (s : SourceGhosts S) (w : SinkGhosts W) (d : DiskGhosts D) (n : WireGhosts N) (registry : Registry) (script : S) (out out_now : W) (disk disk_now : D) (wire wire_now : N) (status : Status) : Type 0 where
-  pub told : Telling
-  pub lines : IsTrue s.tells → AreTold (lines_done 0 (script_lines_of (s.left script))) (line_refused 0 (script_lines_of (s.left script))) told status
-  pub written : IsWritten w told out out_now status
+-- What a run brings about of which this is told: where the disk tells its content, and its count of faults stood still until the files were opened, the
+-- transitions told are such a run, from any world in order that the files stood for.
+pub record BringsAbout {D N : Type 0} (d : DiskGhosts D) (n : WireGhosts N) (shown : Option ℕ) (registry : Registry) (told : Telling) (disk disk_now : D) (wire wire_now : N) (status : Status) : Type 0 where
   -- the disk when the files were opened, or when the run ended without
   pub disk_open : D
   pub opened_first : d.faults disk_open ≤ d.faults disk_now
+  -- where a fault of the disk ended the run in a line, its count rose since
+  pub fails : (file : ℕ) → status ≡ DiskFault file → (told ≡ nothing_told) ⊎ Rose (d.faults disk_open) (d.faults disk_now)
   pub traces : IsTrue d.tells → StandsStill d disk disk_open → (start : ClaimMap) (world : World) →
       IsInOrder registry start world → AreConfigured registry world → IsOf registry (d.seen disk) world →
-      WhereOpened status told (Traces d n registry world told disk_open disk_now wire wire_now status)
+      WhereOpened status told (Traces d n shown registry world told disk_open disk_now wire wire_now status)
+
+-- What a run comes to: what is told of its lines and written, and what it brought about.
+pub record Ups {S W D N : Type 0} (s : SourceGhosts S) (w : SinkGhosts W) (d : DiskGhosts D) (n : WireGhosts N) (shown : Option ℕ) (registry : Registry) (script : S) (out out_now : W) (disk disk_now : D) (wire wire_now : N) (status : Status) : Type 0 where
+  pub told : Telling
+  pub lines : IsTrue s.tells → AreTold (lines_done 0 (script_lines_of (s.left script))) (line_refused 0 (script_lines_of (s.left script))) told status
+  pub written : IsWritten w told out out_now status
+  pub brings : BringsAbout d n shown registry told disk disk_now wire wire_now status
 
 -- The reports of a run with a script, by how it ended: what is told, and the last line. A fault of writing leaves a front of a report with
 -- another last line.
@@ -150,16 +183,11 @@ EndsUp (EpochsSpent cell) = Unit {0}
 EndsUp other = ⊥
 
 -- What a run with a script over this configuration comes to, with its report.
-pub record RunsUp {S W D N : Type 0} (s : SourceGhosts S) (w : SinkGhosts W) (d : DiskGhosts D) (n : WireGhosts N) (registry : Registry) (script script_now : S) (out out_now : W) (disk disk_now : D) (wire wire_now : N) (status : Status) : Type 0 where
+pub record RunsUp {S W D N : Type 0} (s : SourceGhosts S) (w : SinkGhosts W) (d : DiskGhosts D) (n : WireGhosts N) (shown : Option ℕ) (registry : Registry) (script script_now : S) (out out_now : W) (disk disk_now : D) (wire wire_now : N) (status : Status) : Type 0 where
   pub told : Telling
   pub lines : IsTrue s.tells → AreTold (lines_done 0 (script_lines_of (s.left script))) (line_refused 0 (script_lines_of (s.left script))) told status
   pub report : Writes w out out_now (IsReportOf s.tells (lines_done 0 (script_lines_of (s.left script))) (line_refused 0 (script_lines_of (s.left script))) told status)
-  -- the disk when the files were opened, or when the run ended without
-  pub disk_open : D
-  pub opened_first : d.faults disk_open ≤ d.faults disk_now
-  pub traces : IsTrue d.tells → StandsStill d disk disk_open → (start : ClaimMap) (world : World) →
-      IsInOrder registry start world → AreConfigured registry world → IsOf registry (d.seen disk) world →
-      WhereOpened status told (Traces d n registry world told disk_open disk_now wire wire_now status)
+  pub brings : BringsAbout d n shown registry told disk disk_now wire wire_now status
   pub read : IsTrue s.tells → EndsUpAt (s.left script) (s.left script_now) status
   pub damage : IsDamaged d registry disk disk_now status
 

@@ -1,6 +1,7 @@
 -- What the lines of a script bring about between two moments.
-use Rattle.std.specs.Prelude.{◌≡◌, ℕ, ◌≤◌, List, [], ◌∷◌, ◌++◌}
+use Rattle.std.specs.Prelude.{◌≡◌, ℕ, ◌≤◌, if◌then◌else◌, IfSome, List, [], ◌∷◌, ◌++◌, Option, Some, None}
 use Rattle.disk_journal.specs.declared.disk.Disk.{Ghosts}
+use Rattle.cells_edge.specs.declared.clock.Clock.{Ghosts as ClockGhosts}
 use Rattle.cells_edge.specs.declared.wire.Wire.{Ghosts as WireGhosts}
 use Rattle.claim_map.specs.Registry.{Registry}
 use Rattle.claim_map.specs.State.{ClaimMap}
@@ -8,37 +9,61 @@ use Rattle.claim_laws.specs.Events.{Event, run}
 use Rattle.claim_laws.specs.Facts.{IsInOrder}
 use Rattle.claim_laws.specs.World.{World}
 use Rattle.cells_world.specs.Follows.{AreEventsOf, TakesOnWay}
+use Rattle.cells_world.specs.Lines.{moment_behind, waited_by}
+use Rattle.cells_world.specs.OnWay.{Way}
 use Rattle.cells_world.specs.World.{At, Goes, IsIn, Works}
 use Rattle.cells_cli.specs.Told.{Item, notes_told, steps_told}
 
-module _ {N : Type 0} (n : WireGhosts N) (registry : Registry) where
-  -- A line that was answered so, by these events from a world and a wire on: its answer is what they bring, and so are the steps and notes told of it; where
-  -- the wire did its work meanwhile the packets taken are those on their way, in order.
-  pub record IsOfItem (w : World) (wire : N) (armed : List ℕ) (item : Item) (own : List Event) (wire_then : N) (armed_then : List ℕ) : Type 0 where
-    pub now : ℕ
-    pub are : AreEventsOf registry w now item.line item.answer own
+-- the moment that a clock shows, where it tells
+abbrev pub moment_shown : {C : Type 0} → ClockGhosts C → C → Option ℕ
+moment_shown c clock = if c.tells then Some (c.moment clock) else None
+
+-- what was read of it is that moment
+abbrev pub IsShown : Option ℕ → ℕ → Type 0
+IsShown shown read = IfSome shown (λ moment. read ≡ moment)
+
+-- what stands between two lines beside the nodes and their files: the wire, the losses that are armed, and the seconds that were waited
+pub record Beside (N : Type 0) : Type 0 where
+  pub wire : N
+  pub armed : List ℕ
+  pub waited : ℕ
+
+abbrev pub beside : {D N : Type 0} → At D N → Beside N
+beside at = record { wire = at.wire; armed = at.cluster.post.armed.items; waited = at.cluster.waited }
+
+-- what is on its way then
+abbrev pub way_of : {N : Type 0} → WireGhosts N → Beside N → Way
+way_of n here = record { packets = n.queued here.wire; armed = here.armed }
+
+module _ {N : Type 0} (n : WireGhosts N) (shown : Option ℕ) (registry : Registry) where
+  -- A line that was answered so, by these events from a world on, at the moment that the clock showed and the seconds waited before it: its answer is what they
+  -- bring, and so are the steps and notes told of it; where the wire did its work meanwhile the packets taken are those on their way, in order.
+  pub record IsOfItem (w : World) (here : Beside N) (item : Item) (own : List Event) (there : Beside N) : Type 0 where
+    pub clock : ℕ
+    pub read : IsShown shown clock
+    pub are : AreEventsOf registry w (moment_behind here.waited clock) item.line item.answer own
     pub steps : (run registry own w).trace ≡ w.trace ++ item.steps
     pub notes : (run registry own w).notes ≡ w.notes ++ item.notes
-    pub later : n.faults wire ≤ n.faults wire_then
-    pub took : Works n wire wire_then → TakesOnWay registry w now item.line item.answer (record { packets = n.queued wire; armed = armed }) are.taken (record { packets = n.queued wire_then; armed = armed_then })
+    pub waited : there.waited ≡ waited_by item.line here.waited
+    pub later : n.faults here.wire ≤ n.faults there.wire
+    pub took : Works n here.wire there.wire → TakesOnWay registry w (moment_behind here.waited clock) item.line item.answer (way_of n here) are.taken (way_of n there)
 
   -- The events of these lines, of each in turn.
-  abbrev pub AreOfItems : World → N → List ℕ → List Item → List Event → N → List ℕ → Type 0
-  AreOfItems w wire armed [] es wire_now armed_now = (es ≡ []) × (wire_now ≡ wire) × (armed_now ≡ armed)
-  AreOfItems w wire armed (item ∷ items) es wire_now armed_now =
-      (own : List Event) × (rest : List Event) × (wire_then : N) × (armed_then : List ℕ) × (es ≡ own ++ rest)
-      × IsOfItem w wire armed item own wire_then armed_then × AreOfItems (run registry own w) wire_then armed_then items rest wire_now armed_now
+  abbrev pub AreOfItems : World → Beside N → List Item → List Event → Beside N → Type 0
+  AreOfItems w here [] es there = (es ≡ []) × (there ≡ here)
+  AreOfItems w here (item ∷ items) es there =
+      (own : List Event) × (rest : List Event) × (mid : Beside N) × (es ≡ own ++ rest) × IsOfItem w here item own mid × AreOfItems (run registry own w) mid items rest there
 
 -- what lines bring about from a world
-pub record Brings {D N : Type 0} (g : Ghosts D) (n : WireGhosts N) (registry : Registry) (w : World) (items : List Item) (old new : At D N) : Type 0 where
+pub record Brings {D N : Type 0} (g : Ghosts D) (n : WireGhosts N) (shown : Option ℕ) (registry : Registry) (w : World) (items : List Item) (old new : At D N) : Type 0 where
   pub events : List Event
-  pub of_items : AreOfItems n registry w old.wire old.cluster.post.armed.items items events new.wire new.cluster.post.armed.items
+  pub of_items : AreOfItems n shown registry w (beside old) items events (beside new)
   pub goes : Goes g n registry w old new events
 
 -- The lines of these items were done: the trace and the notes went on by theirs, and from any world in order that the cluster was in they brought events about.
-pub record Went {D N : Type 0} (g : Ghosts D) (n : WireGhosts N) (old : At D N) (items : List Item) (new : At D N) : Type 0 where
+pub record Went {D N : Type 0} (g : Ghosts D) (n : WireGhosts N) (shown : Option ℕ) (old : At D N) (items : List Item) (new : At D N) : Type 0 where
   pub registry : new.cluster.registry ≡ old.cluster.registry
-  pub later : n.faults old.wire ≤ n.faults new.wire
+  pub later : (g.faults old.disk ≤ g.faults new.disk) × (n.faults old.wire ≤ n.faults new.wire)
   pub trace : new.cluster.trace.items ≡ old.cluster.trace.items ++ steps_told items
   pub notes : new.cluster.notes.items ≡ old.cluster.notes.items ++ notes_told items
-  pub brings : (start : ClaimMap) (w : World) → IsInOrder old.cluster.registry start w → IsIn old.cluster w → Brings g n old.cluster.registry w items old new
+  pub brings : (start : ClaimMap) (w : World) → IsInOrder old.cluster.registry start w → IsIn old.cluster w → Brings g n shown old.cluster.registry w items old new

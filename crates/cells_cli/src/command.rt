@@ -9,6 +9,7 @@ ghost use Rattle.cells_cli.specs.Served.{EndsAs, EndsService};
 ghost use Rattle.cells_cli.specs.Service.{KeepsBounds};
 ghost use Rattle.cells_cli.specs.Status.{last_line};
 ghost use Rattle.cells_cli.specs.Ups.{EndsUp, RunsUp};
+ghost use Rattle.cells_cli.specs.Went.{moment_shown};
 
 use crate::config::{ConfigFault, Work, work_of};
 use crate::init::{InitStop, make_files};
@@ -267,8 +268,8 @@ fn operate<B: Source, W: Sink, D: Disk, N: Wire, C: Clock>(
     clock: &mut C,
 ) -> Status
     requires { IsTrue (is_registry registry) }
-    ensures runs { RunsUp B.Source W.Sink D.Disk N.Wire registry script.old script.new out.old out.new
-        disk.old disk.new wire.old wire.new result }
+    ensures runs { RunsUp B.Source W.Sink D.Disk N.Wire (moment_shown C.Clock clock.old) registry
+        script.old script.new out.old out.new disk.old disk.new wire.old wire.new result }
     ensures read { result ≡ Status.ReadFault → SourceFails B.Source script.old script.new }
     ensures write { result ≡ Status.WriteFault → SinkFails W.Sink out.old out.new }
     ensures disk { DiskFails D.Disk disk.old disk.new result }
@@ -314,8 +315,8 @@ pub fn run<A: Source, B: Source, W: Sink, D: Disk, N: Wire, C: Clock>(
     ensures made { Installs A.Source W.Sink D.Disk words.now config.old out.old out.new disk.old disk.new result }
 
     // what was done, traced and left
-    ensures up { RunsUpBy A.Source B.Source W.Sink D.Disk N.Wire words.now config.old script.old script.new
-        out.old out.new disk.old disk.new wire.old wire.new result }
+    ensures up { RunsUpBy A.Source B.Source W.Sink D.Disk N.Wire (moment_shown C.Clock clock.old) words.now
+        config.old script.old script.new out.old out.new disk.old disk.new wire.old wire.new result }
 
     // when each status comes; want of memory is free
     ensures start { StartsBy A.Source words.now config.old result }

@@ -8,6 +8,7 @@ ghost use Rattle.cells_world.specs.World.{at as moment};
 ghost use Rattle.cells_world.specs.declared.limits.TheConstants.{MOST_TAKES, TAKES_A_LINE};
 ghost use Rattle.cells_cli.specs.Doing.{DoesLine, DoesScript, DoesText, HasItsCause, HasLineCause, ReadsAll, ended, stopped_by, EndsSo};
 ghost use Rattle.cells_cli.specs.Ups.{OpensSo, Ups};
+ghost use Rattle.cells_cli.specs.Went.{moment_shown};
 ghost use Rattle.cells_cli.specs.declared.up.UpStop.TheVariants.{Memory, Cluster as OfCluster};
 
 use crate::lines::{LINES, LineFault, LineReader};
@@ -84,10 +85,11 @@ fn do_line<W: Sink, D: Disk, N: Wire, C: Clock>(
     requires ready { IsReady D.Disk disk.old cluster.old }
     requires takes { cluster.old.takes < MOST_TAKES }
     requires built { IsBuilt line.now }
-    ensures does { DoesLine W.Sink D.Disk N.Wire number line.now (moment cluster.old disk.old wire.old)
-        (moment cluster.new disk.new wire.new) out.old out.new result }
+    ensures does { DoesLine W.Sink D.Disk N.Wire (moment_shown C.Clock clock.old) number line.now
+        (moment cluster.old disk.old wire.old) (moment cluster.new disk.new wire.new) out.old out.new result }
     ensures takes { OnOk result (cluster.new.takes ≤ cluster.old.takes + TAKES_A_LINE) }
     ensures cause { HasLineCause W.Sink D.Disk out.old out.new disk.old disk.new result }
+    ensures clock { moment_shown C.Clock clock.new ≡ moment_shown C.Clock clock.old }
     ensures later { (W.faults out.old ≤ W.faults out.new) × (D.faults disk.old ≤ D.faults disk.new) }
 {
     let notes = cluster.notes().len();
@@ -137,10 +139,11 @@ fn take_line<W: Sink, D: Disk, N: Wire, C: Clock>(
 ) -> Result<(), UpStop>
     requires ready { IsReady D.Disk disk.old cluster.old }
     requires takes { cluster.old.takes < MOST_TAKES }
-    ensures does { DoesText W.Sink D.Disk N.Wire number text.now (moment cluster.old disk.old wire.old)
-        (moment cluster.new disk.new wire.new) out.old out.new result }
+    ensures does { DoesText W.Sink D.Disk N.Wire (moment_shown C.Clock clock.old) number text.now
+        (moment cluster.old disk.old wire.old) (moment cluster.new disk.new wire.new) out.old out.new result }
     ensures takes { OnOk result (cluster.new.takes ≤ cluster.old.takes + TAKES_A_LINE) }
     ensures cause { HasLineCause W.Sink D.Disk out.old out.new disk.old disk.new result }
+    ensures clock { moment_shown C.Clock clock.new ≡ moment_shown C.Clock clock.old }
     ensures later { (W.faults out.old ≤ W.faults out.new) × (D.faults disk.old ≤ D.faults disk.new) }
 {
     match reading_of(alloc, text) {
@@ -167,8 +170,8 @@ fn do_lines<S: Source, W: Sink, D: Disk, N: Wire, C: Clock>(
     requires ready { IsReady D.Disk disk.old cluster.old }
     requires takes { cluster.old.takes ≡ 0 }
     requires fresh { (lines.old.given ≡ 0) × (lines.old.pending ≡ []) × (lines.old.limit ≡ LINE_BYTES) }
-    ensures does { DoesScript S.Source W.Sink D.Disk N.Wire script.old (moment cluster.old disk.old wire.old)
-        (moment cluster.new disk.new wire.new) out.old out.new result }
+    ensures does { DoesScript S.Source W.Sink D.Disk N.Wire (moment_shown C.Clock clock.old) script.old
+        (moment cluster.old disk.old wire.old) (moment cluster.new disk.new wire.new) out.old out.new result }
     ensures end { IsTrue S.tells → ReadsAll S.Source script.new result }
     ensures cause { HasItsCause S.Source W.Sink (EndsSo D.Disk disk.old disk.new) script.old script.new
         out.old out.new result }
@@ -201,8 +204,8 @@ pub fn up<S: Source, W: Sink, D: Disk, N: Wire, C: Clock>(
     clock: &mut C,
 ) -> Result<(), UpStop>
     requires { IsTrue (is_registry registry) }
-    ensures ups { Ups S.Source W.Sink D.Disk N.Wire registry script.old out.old out.new disk.old disk.new
-        wire.old wire.new (ended result) }
+    ensures ups { Ups S.Source W.Sink D.Disk N.Wire (moment_shown C.Clock clock.old) registry script.old
+        out.old out.new disk.old disk.new wire.old wire.new (ended result) }
     ensures end { IsTrue S.tells → ReadsAll S.Source script.new result }
     ensures cause { HasItsCause S.Source W.Sink (OpensSo D.Disk registry disk.old disk.new) script.old script.new
         out.old out.new result }

@@ -37,7 +37,8 @@ use Rattle.claim_laws.specs.Nodes.{Agent, Heard, hears, hears_good, hears_denied
 use Rattle.claim_laws.specs.World.{Packet, World}
 use Rattle.cells_world.specs.World.{IsHandOver}
 use Rattle.cells_world.proofs.Undrawn.{speaks_of_begin}
-use Rattle.cells_world.proofs.Handing.{place_cases, asks_from, answer_to, asked_agents, asked_sends, hand_grows, heard_agents, heard_comes, none_comes, heard_sends, requests_by, requests_of}
+use Rattle.cells_world.proofs.Further.{event_grows, longer, place_cases}
+use Rattle.cells_world.proofs.Handing.{asks_from, answer_to, asked_agents, asked_sends, heard_agents, heard_comes, none_comes, heard_sends, requests_by, requests_of}
 
 -- A cell sends no begin for what it hears.
 abbrev BeginsNone : List Request → Type 0
@@ -185,10 +186,10 @@ module _ (registry : Registry) (k steps notes : ℕ) (lease : LeaseId) (v : Worl
     u = happens registry v (hands n)
 
     traced_on : steps ≤ length u.trace
-    traced_on = let on = (hand_grows registry v n).trace.longer in let was = keep.traced in omega (arith, on, was)
+    traced_on = let on = longer (event_grows registry v (hands n)).trace in let was = keep.traced in omega (arith, on, was)
 
     noted_on : notes ≤ length u.notes
-    noted_on = let on = (hand_grows registry v n).notes.longer in let was = keep.noted in omega (arith, on, was)
+    noted_on = let on = longer (event_grows registry v (hands n)).notes in let was = keep.noted in omega (arith, on, was)
 
     -- a request is handed to the service
     module _ (request : Request) (is : p.message ≡ ask request) where

@@ -1,9 +1,9 @@
 -- The service's file is opened, and then those of the cells.
 use Rattle.std.proofs.Common.{◌≡◌, inr, ℕ, ◌≤◌, true, IsTrue, List, sym, subst, arith, ◌∙◌, ap}
-use Rattle.std.specs.Prelude.{Err}
+use Rattle.std.specs.Prelude.{Err, IsSome}
 use Rattle.std.specs.List.{Contains}
 use Rattle.claim_types.specs.declared.cell.Cell.{Cell}
-use Rattle.claim_map.specs.Registry.{Registry}
+use Rattle.claim_map.specs.Registry.{Registry, cell_of}
 use Rattle.cell_registry.specs.Bounds.{is_registry}
 use Rattle.claim_service.proofs.Configured.{legal_cells}
 use Rattle.claim_service.specs.declared.limits.TheConstants.{SERVICE_FILE}
@@ -18,7 +18,7 @@ use Rattle.cells_world.specs.declared.cluster.Cluster.{Cluster}
 use Rattle.cells_world.specs.declared.fault.ClusterError.{ClusterError}
 use Rattle.cells_world.specs.declared.fault.ClusterError.TheVariants.{DiskFailed, Memory, Damaged}
 use Rattle.cells_world.proofs.Agents.{opened_same, serves_there, shows_same}
-use Rattle.cells_world.proofs.Configured.{agents_of, apart_of}
+use Rattle.cells_world.proofs.Configured.{agents_of, apart_of, known_of}
 
 -- a cell's file is not the service's
 pub numbered : (registry : Registry) → is_registry registry ≡ true → (c : Cell) → Contains registry.cells c → 1 ≤ c.id
@@ -37,8 +37,8 @@ module _ {D : Type 0} (g : Ghosts D) (registry : Registry) (legal : is_registry 
   pub cells_end : (error : ClusterError) → IsOneEnd g registry.cells mid new error → IsOpenEnd {T = Cluster} g registry old new (Err error)
   cells_end (DiskFailed file) ends = let at = ends.2.1 in ((let rose = at.0 in let on = touches.counts.later in omega (arith, rose, on)), at.1)
   cells_end Memory ends = tt
-  cells_end (Damaged file fault) ends = λ tells still. inr (subst (λ q. ShowsOfCell q (g.seen old) fault) (sym ends.2.0)
-      (shows_same ends.0.id (g.seen old) (g.seen mid) fault (unread tells ends.0.id (numbered registry legal ends.0 ends.1)) (ends.2.1 tells (still_then still))))
+  cells_end (Damaged file fault) ends = λ tells still. inr (subst (λ q. IsSome (cell_of registry q) × ShowsOfCell q (g.seen old) fault) (sym ends.2.0)
+      (known_of registry ends.0 ends.1, shows_same ends.0.id (g.seen old) (g.seen mid) fault (unread tells ends.0.id (numbered registry legal ends.0 ends.1)) (ends.2.1 tells (still_then still))))
 
   module _ (agents : List CellAgent) (are_of : AreOf registry.cells agents) (are_new : AreNew g new agents) where
     pub opened_all : (IsTrue g.tells → StandsStill g mid new → AreOpened (g.seen mid) agents) → IsTrue g.tells → StandsStill g old new → AreOpened (g.seen old) agents

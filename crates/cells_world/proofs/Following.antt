@@ -110,13 +110,13 @@ module _ {D N : Type 0} (g : Ghosts D) (n : WireGhosts N) (a : At D N) (mid : Cl
     goes_both = goes_on g n registry w a (moment mid a.disk wire) b own two.0 first (subst (λ r. Goes g n r behind (moment mid a.disk wire) b two.0) same two.4)
 
     -- all was done, and the line came to its end behind it
-    pub breaks_late : (c : At D N) → IsReady g b.disk b.cluster → b.cluster.registry ≡ registry → c.disk ≡ b.disk → c.cluster.trace.items ≡ b.cluster.trace.items → c.wire ≡ b.wire →
+    pub breaks_late : (c : At D N) → IsReady g b.disk b.cluster → b.cluster.registry ≡ registry → c.disk ≡ b.disk → c.cluster.trace.items ≡ b.cluster.trace.items → c.cluster.notes.items ≡ b.cluster.notes.items → c.wire ≡ b.wire →
         (begun : Begun) → Begins now line a.cluster begun → b.cluster.takes ≤ mid.takes + TAKES_A_LINE → (puts_first begun ≡ false → b.cluster.takes ≡ mid.takes) →
         (es : List Event) × AreEventsOff w now line es × Breaks g n registry w a c es
-    breaks_late c ready_then same_then disk trace same_wire begun begins few quiet = (
+    breaks_late c ready_then same_then disk trace notes same_wire begun begins few quiet = (
       own ++ two.0,
       inr (two.0, line_of two.0 two.1 b.cluster.takes two.3 begun begins few quiet),
-      breaks_behind_all g n registry a b c w (own ++ two.0) ready_then same_then goes_both disk trace same_wire,
+      breaks_behind_all g n registry a b c w (own ++ two.0) ready_then same_then goes_both disk trace notes same_wire,
     )
 
     module _ (begun : Begun) (answer : Answer) (begins : Begins now line a.cluster begun) (is_begun : x ≡ course_of begun (length (packets_of mid.post)))
@@ -181,5 +181,5 @@ module _ {D N : Type 0} (g : Ghosts D) (n : WireGhosts N) (a : At D N) (mid : Cl
       let two = off start behind order_behind (acts start w order is_in) in (
         own ++ two.0,
         inr (two.0, line_of two.0 two.1 c.cluster.takes two.2 begun begins few quiet),
-        breaks_on g n registry w a (moment mid a.disk wire) c own two.0 first (subst (λ r. Breaks g n r behind (moment mid a.disk wire) c two.0) same two.3),
+        breaks_on g n registry w a (moment mid a.disk wire) c own two.0 (omega arith) first (subst (λ r. Breaks g n r behind (moment mid a.disk wire) c two.0) same two.3),
       )

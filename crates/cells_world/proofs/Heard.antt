@@ -29,7 +29,7 @@ use Rattle.claim_laws.proofs.HeardStep.{Leaves, Records, heard_step}
 use Rattle.claim_laws.proofs.Moved.{cell_fine, keeps_in_order, steps_claims, steps_agents}
 use Rattle.claim_laws.proofs.Turns.{folded_push, heard_turn}
 use Rattle.disk_journal.specs.declared.disk.Disk.{Ghosts}
-use Rattle.disk_journal.specs.Disk.{Image}
+use Rattle.disk_journal.specs.Disk.{Image, IsImage}
 use Rattle.disk_journal.specs.Entries.{HasEntries, Stands, Rests, HasTheseOr, AppendsAtMost}
 use Rattle.disk_journal.specs.Journal.{IsOwn}
 use Rattle.disk_journal.proofs.Entries.{stands_in}
@@ -51,7 +51,7 @@ use Rattle.cells_world.specs.Post.{packets_of}
 use Rattle.cells_world.specs.World.{IsIn, IsCellIn, IsOf, IsOfEither, at as moment, Leads}
 use Rattle.cells_world.specs.declared.cluster.Cluster.{Cluster}
 use Rattle.cells_world.proofs.Acting.{agents_put}
-use Rattle.cells_world.proofs.Served.{SameBeside, steps_beside, steps_trace, kept_on_file, ready_is_of}
+use Rattle.cells_world.proofs.Served.{SameBeside, steps_beside, steps_trace, kept_on_file, ready_is_of, ready_stands}
 
 -- a note changes nothing else
 record SameButNotes (v w : World) : Type 0 where
@@ -220,14 +220,10 @@ module _ {D : Type 0} (g : Ghosts D) (old : Cluster) (d e : D) (reply : Reply) (
   heard_moments = λ tells. (let rest = (ready.cells k inside).at_rest tells in
       weaker g d e (HasTheseOr g (store cell) d k.store.journal.file rest.0 h.entry) (IsOfEither registry w then_at) (any_moment rest.0 rest.1) (reached tells rest.0 rest.1) tells)
 
-  module _ {N : Type 0} (new : Cluster) (m n : N) (now : CellAgent)
+  module _ (new : Cluster) (now : CellAgent)
       (tree_now : (stored now.store).tree ≡ (heard_by k reply).tree) (agent_now : kept_by now ≡ (heard_by k reply).agent) (cell_now : now.store.cell ≡ k.store.cell)
       (service_same : new.service ≡ old.service)
-      (puts : PutsOne old.cells.items now new.cells.items)
-      (sent : packets_of new.post ≡ packets_of old.post ++ list_map packet_of (heard_by k reply).sends)
-      (trace : new.trace.items ≡ traced_by (heard_by k reply).step old.takes old.trace.items)
-      (notes : new.notes.items ≡ noted_by (heard_by k reply).ended old.notes.items)
-      (takes : new.takes ≡ old.takes) where
+      (puts : PutsOne old.cells.items now new.cells.items) where
     -- this cell is where the world says, and so is each other
     is_now : IsCellIn then_at now
     is_now = record {
@@ -241,19 +237,37 @@ module _ {D : Type 0} (g : Ghosts D) (old : Cluster) (d e : D) (reply : Reply) (
         let other : a.store.cell ≢ cell = λ same. apart (same ∙ sym cell_now) in
         record { tree = tree_there a.store.cell other ∙ was.tree; agent = agent_there a.store.cell other ∙ was.agent }
 
-    in_then : IsIn new then_at
-    in_then = record {
-      service = then_service ∙ is_in.service ∙ ap (λ (s : TopologyNode). kept s.state) (sym service_same);
-      cells = λ a there. ⊎_elim (λ same. subst (IsCellIn then_at) (sym same) is_now) (λ other. is_other a other.0 other.1) (puts.each a there);
-      only = agents_put old new w then_at now cell cell_now puts agent_there is_in;
-      sent = ap (λ ps. ps ++ list_map packet_of h.sends) (noted_then.sent ∙ beside.sent ∙ is_in.sent) ∙ sym sent;
-      trace = noted_then.trace ∙ steps_trace h.step base old.trace.items old.takes is_in.takes is_in.trace ∙ sym trace;
-      notes = noted_is h.ended (with_step h.step base) ∙ ap (noted_by h.ended) (beside.notes ∙ is_in.notes) ∙ sym notes;
-      takes = ap length (noted_then.handed ∙ beside.handed) ∙ is_in.takes ∙ sym takes;
-    }
+    cells_then : (a : CellAgent) → Contains new.cells.items a → IsCellIn then_at a
+    cells_then a there = ⊎_elim (λ same. subst (IsCellIn then_at) (sym same) is_now) (λ other. is_other a other.0 other.1) (puts.each a there)
 
-    pub heard_leads : Leads g w then_at (moment old d m) (moment new e n)
-    heard_leads = record { now = in_then; moments = heard_moments }
+    service_then : service_of then_at.claims ≡ kept new.service.state
+    service_then = then_service ∙ is_in.service ∙ ap (λ (s : TopologyNode). kept s.state) (sym service_same)
+
+    -- it was heard: the files stand for the world behind it, whatever is sent of it
+    pub heard_stands : IsReady g e new → new.registry ≡ registry → IsTrue g.tells → (img : Image) → IsImage (g.may_leave e) img → IsOf registry img then_at
+    heard_stands ready_then same = ready_stands g e new registry then_at ready_then same service_then cells_then
+
+    module _ (trace : new.trace.items ≡ traced_by (heard_by k reply).step old.takes old.trace.items) (notes : new.notes.items ≡ noted_by (heard_by k reply).ended old.notes.items) where
+      pub heard_trace : then_at.trace ≡ new.trace.items
+      heard_trace = noted_then.trace ∙ steps_trace h.step base old.trace.items old.takes is_in.takes is_in.trace ∙ sym trace
+
+      pub heard_notes : then_at.notes ≡ new.notes.items
+      heard_notes = noted_is h.ended (with_step h.step base) ∙ ap (noted_by h.ended) (beside.notes ∙ is_in.notes) ∙ sym notes
+
+      module _ {N : Type 0} (m n : N) (sent : packets_of new.post ≡ packets_of old.post ++ list_map packet_of (heard_by k reply).sends) (takes : new.takes ≡ old.takes) where
+        in_then : IsIn new then_at
+        in_then = record {
+          service = service_then;
+          cells = cells_then;
+          only = agents_put old new w then_at now cell cell_now puts agent_there is_in;
+          sent = ap (λ ps. ps ++ list_map packet_of h.sends) (noted_then.sent ∙ beside.sent ∙ is_in.sent) ∙ sym sent;
+          trace = heard_trace;
+          notes = heard_notes;
+          takes = ap length (noted_then.handed ∙ beside.handed) ∙ is_in.takes ∙ sym takes;
+        }
+
+        pub heard_leads : Leads g w then_at (moment old d m) (moment new e n)
+        heard_leads = record { now = in_then; moments = heard_moments }
 
 -- the cell that a reply is addressed to is the one that it goes to in the world, if its number is that of a cell
 pub receiver_is : (reply : Reply) (cell : ℕ) → 1 ≤ cell → cell ≤ GREATEST_CELL → cell ≡ address_of_reply reply → cell ≡ receiver reply

@@ -18,6 +18,7 @@ pub mod Reconcile
 pub mod Wanting
 pub mod Lossless
 pub mod Undrawn
+pub mod Further
 pub mod Handing
 pub mod Tracking
 pub mod Replying
@@ -27,6 +28,5 @@ pub mod Unhindered
 pub mod Waiting
 pub mod Following
 pub mod Growing
-pub mod Tracing
 pub mod Begun
 pub mod Putting

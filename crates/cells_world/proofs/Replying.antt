@@ -47,7 +47,8 @@ use Rattle.cells_world.specs.declared.course.Course.{Course}
 use Rattle.cells_world.specs.declared.course.Course.TheVariants.{Awaits, Replied}
 use Rattle.cells_world.proofs.Answered.{past, recorded_told, changed_told, denied_told}
 use Rattle.cells_world.proofs.Changing.{Waits, begin_answers, waits_on}
-use Rattle.cells_world.proofs.Handing.{asks_from, asked_agents, hand_grows, heard_agents, heard_comes, heard_sends, none_comes, requests_by, requests_of, run_grows}
+use Rattle.cells_world.proofs.Further.{event_grows, run_grows, stays}
+use Rattle.cells_world.proofs.Handing.{asks_from, asked_agents, heard_agents, heard_comes, heard_sends, none_comes, requests_by, requests_of}
 use Rattle.cells_world.proofs.Lossless.{AllCome}
 use Rattle.cells_world.proofs.Tracking.{IsReplyTo, Tracks, last_tracks, reply_comes}
 
@@ -72,15 +73,15 @@ module _ (registry : Registry) where
 
     pub turns : after_event u.sent (hands n) (Awaits tag) ≡ after_reply n reply (length u.sent)
     turns =
-        ap (λ o. after_packet tag n o (length u.sent)) ((hand_grows registry v n).sent.stays n p at)
+        ap (λ o. after_packet tag n o (length u.sent)) (stays (event_grows registry v (hands n)).sent n p at)
         ∙ ap (λ b. cond b (after_message tag n p.message (length u.sent)) (Awaits tag)) ((Decides-eqb p.answers tag).1 answers)
         ∙ ap (λ m. after_message tag n m (length u.sent)) is
 
-    pub ends_with : (es : List Event) → AllByRecursion IsHandOver es → after_reply n reply (length u.sent) ≡ Replied n → reply_of (run registry es u).sent (course_behind registry u (after_event u.sent (hands n) (Awaits tag)) es) ≡ Some reply
-    ends_with es hand_over replied =
+    pub ends_with : (es : List Event) → after_reply n reply (length u.sent) ≡ Replied n → reply_of (run registry es u).sent (course_behind registry u (after_event u.sent (hands n) (Awaits tag)) es) ≡ Some reply
+    ends_with es replied =
         ap (λ c. reply_of (run registry es u).sent (course_behind registry u c es)) (turns ∙ replied)
         ∙ ap (reply_of (run registry es u).sent) (replied_stays es u n)
-        ∙ ap reply_in ((run_grows registry es u hand_over).sent.stays n p ((hand_grows registry v n).sent.stays n p at))
+        ∙ ap reply_in (stays (run_grows registry es u).sent n p (stays (event_grows registry v (hands n)).sent n p at))
         ∙ ap reply_said is
 
   -- a range
@@ -100,7 +101,7 @@ module _ (registry : Registry) where
         (λ x xs on keep e is other. tt)
         (λ x xs rest n p fs on keep at answers said few hand come.
         let result = range_answers (range_verdict registry said.0.ranges cell number) in
-        (result.0, ends_with x n p (Ranged cell number result.0) (k + 1) at answers (said.1 ∙ ap answer result.1) fs hand refl))
+        (result.0, ends_with x n p (Ranged cell number result.0) (k + 1) at answers (said.1 ∙ ap answer result.1) fs refl))
         v packets es tracks tt (omega arith) hand_over all
 
   -- pages of open leases
@@ -174,7 +175,7 @@ module _ (registry : Registry) where
       Told = IsLastPage (run registry es then_at) (course_behind registry then_at (after_event then_at.sent (hands n) (Awaits (k + 1))) es)
 
       no_more : page.more ≡ false → Told
-      no_more more = (page, ends_with v n p (Leases cell page) (k + 1) at answers message es hand_over (ap (λ b. cond b (awaits_next page.leases (length then_at.sent)) (Replied n)) more))
+      no_more more = (page, ends_with v n p (Leases cell page) (k + 1) at answers message es (ap (λ b. cond b (awaits_next page.leases (length then_at.sent)) (Replied n)) more))
 
       some_more : page.more ≡ true → Told
       some_more more =
@@ -228,7 +229,7 @@ module _ (registry : Registry) where
       owed = said.1 ∙ ap (λ b. answer (cond b (begin_due lease ops (verdict_of (leases_of said.0) said.0.ranges lease ops)) (told_alone (NoCell lease.cell))).reply) known
 
       denied : (denial : Denial) → p.message ≡ answer (Begun lease (Denied denial)) → IsAnswered end course
-      denied denial is = denied_told lease (drop steps end.trace) (drop notes end.notes) (reply_of end.sent course) lease denial (ends_with v n p (Begun lease (Denied denial)) (k + 1) at answers is es hand_over refl)
+      denied denial is = denied_told lease (drop steps end.trace) (drop notes end.notes) (reply_of end.sent course) lease denial (ends_with v n p (Begun lease (Denied denial)) (k + 1) at answers is es refl)
 
       module _ (is : p.message ≡ answer (Begun lease Good)) where
         abbrev before : World
@@ -244,12 +245,12 @@ module _ (registry : Registry) where
         good true so =
             let t : Transition = record { take = length before.handed; step = Recorded lease keep.attempt.change } in
             let traced : slice_get later_at.trace (length v.trace) ≡ Some t = ap (λ (x : World). slice_get x.trace (length v.trace)) so ∙ get_last v.trace t in
-            let stands = (run_grows registry es later_at hand_over).trace.stays (length v.trace) t traced in
+            let stands = stays (run_grows registry es later_at).trace (length v.trace) t traced in
             recorded_told lease (drop steps end.trace) (drop notes end.notes) (reply_of end.sent course) t keep.attempt.change (past steps end.trace (length v.trace) t keep.traced stands) refl
         good false so =
             let note = ChangedNote lease keep.attempt.version (tree_of v.claims lease.cell).version in
             let noted : slice_get later_at.notes (length v.notes) ≡ Some note = ap (λ (x : World). slice_get x.notes (length v.notes)) so ∙ get_last v.notes note in
-            let stands = (run_grows registry es later_at hand_over).notes.stays (length v.notes) note noted in
+            let stands = stays (run_grows registry es later_at).notes (length v.notes) note noted in
             changed_told lease (drop steps end.trace) (drop notes end.notes) (reply_of end.sent course) keep.attempt.version (tree_of v.claims lease.cell).version (past notes end.notes (length v.notes) note keep.noted stands)
 
       begun_turns : IsAnswered end course

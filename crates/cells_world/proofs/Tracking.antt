@@ -29,7 +29,8 @@ use Rattle.cells_world.specs.World.{IsHandOver}
 use Rattle.cells_world.specs.declared.course.Course.{Course}
 use Rattle.cells_world.specs.declared.course.Course.TheVariants.{Awaits}
 use Rattle.cells_world.proofs.Lossless.{AllCome}
-use Rattle.cells_world.proofs.Handing.{place_left, place_right, place_cases, asks_from, asked_sends, heard_sends, hand_grows, requests_of, answer_to}
+use Rattle.cells_world.proofs.Further.{event_grows, place_left, place_right, place_cases, stays}
+use Rattle.cells_world.proofs.Handing.{asks_from, asked_sends, heard_sends, requests_of, answer_to}
 
 pub same_place : (m n : ℕ) (p q : Packet) → spelled m p ≡ spelled n q → m ≡ n
 same_place m n p q is = let tags : m + 1 ≡ n + 1 = ap (λ (x : WirePacket). x.leg.tag) is in omega (arith, tags)
@@ -182,7 +183,7 @@ module _ (registry : Registry) (k : ℕ) (asked : Request) where
 
         asked_waits : after_event u.sent (hands n) (Awaits (k + 1)) ≡ Awaits (k + 1)
         asked_waits =
-            ap (λ o. after_packet (k + 1) n o (length u.sent)) ((hand_grows registry v n).sent.stays n p at)
+            ap (λ o. after_packet (k + 1) n o (length u.sent)) (stays (event_grows registry v (hands n)).sent n p at)
             ∙ ap (λ m. cond (nat_eq p.answers (k + 1)) (after_message (k + 1) n m (length u.sent)) (Awaits (k + 1))) is
             ∙ either (nat_eq p.answers (k + 1)) (Awaits (k + 1))
           where
@@ -211,7 +212,7 @@ module _ (registry : Registry) (k : ℕ) (asked : Request) where
 
         heard_waits : after_event u.sent (hands n) (Awaits (k + 1)) ≡ Awaits (k + 1)
         heard_waits =
-            ap (λ o. after_packet (k + 1) n o (length u.sent)) ((hand_grows registry v n).sent.stays n p at)
+            ap (λ o. after_packet (k + 1) n o (length u.sent)) (stays (event_grows registry v (hands n)).sent n p at)
             ∙ ap (λ b. cond b (after_message (k + 1) n p.message (length u.sent)) (Awaits (k + 1))) (not_true (nat_eq p.answers (k + 1)) (λ t. other ((Decides-eqb p.answers (k + 1)).0 t)))
 
   -- The reply comes: what is true of each world where it is handed over, by what is true as long as it is not, is true behind these events.

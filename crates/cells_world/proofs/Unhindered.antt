@@ -53,7 +53,8 @@ use Rattle.cells_world.specs.declared.answer.Begun.{Begun as BegunLine}
 use Rattle.cells_world.specs.declared.answer.Begun.TheVariants.{Told, Asked, RangeAsked, Reconciles}
 use Rattle.cells_world.specs.declared.course.Course.TheVariants.{Awaits}
 use Rattle.cells_world.proofs.Changing.{Waits}
-use Rattle.cells_world.proofs.Handing.{asks_from, place_cases}
+use Rattle.cells_world.proofs.Further.{place_cases}
+use Rattle.cells_world.proofs.Handing.{asks_from}
 use Rattle.cells_world.proofs.Lossless.{AllCome, all_come, puts_fewer, through_all, way_fewer}
 use Rattle.cells_world.proofs.Replying.{change_comes, pages_come, range_comes}
 use Rattle.cells_world.proofs.Tracking.{Tracks, last_tracks}

@@ -63,8 +63,11 @@ IsBuilt (Wait seconds) = Unit {0}
 IsBuilt line = IsSome (cell_of_change line)
 
 -- the moment of a line: that of the clock, and the seconds waited before it, as far as the count goes
+abbrev pub moment_behind : ℕ → ℕ → ℕ
+moment_behind waited now = min (now + waited) GREATEST_NUMBER
+
 abbrev pub moment_of : Cluster → ℕ → ℕ
-moment_of c now = min (now + c.waited) GREATEST_NUMBER
+moment_of c now = moment_behind c.waited now
 
 -- how long was waited once a line was done, as far as the count goes
 abbrev pub waited_by : Line → ℕ → ℕ

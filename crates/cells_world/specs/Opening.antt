@@ -1,5 +1,5 @@
 -- What an opening of all files comes to.
-use Rattle.std.specs.Prelude.{◌≡◌, ◌≢◌, ◌⊎◌, ℕ, IsTrue, List, [], map as list_map, Some, Result, Ok, Err}
+use Rattle.std.specs.Prelude.{◌≡◌, ◌≢◌, ◌⊎◌, ℕ, IsSome, IsTrue, List, [], map as list_map, Some, Result, Ok, Err}
 use Rattle.std.specs.List.{Contains, slice_get}
 use Rattle.cells_base.specs.Causes.{Rose}
 use Rattle.disk_journal.specs.declared.disk.Disk.{Ghosts}
@@ -7,7 +7,7 @@ use Rattle.disk_journal.specs.Disk.{Image}
 use Rattle.disk_journal.specs.Effects.{FailedAt}
 use Rattle.disk_journal.specs.Moments.{Stays}
 use Rattle.claim_types.specs.declared.cell.Cell.{Cell}
-use Rattle.claim_map.specs.Registry.{Registry}
+use Rattle.claim_map.specs.Registry.{Registry, cell_of}
 use Rattle.claim_map.specs.State.{ClaimMap}
 use Rattle.claim_laws.specs.Facts.{IsInOrder}
 use Rattle.claim_laws.specs.Proper.{AreConfigured}
@@ -78,9 +78,9 @@ IsCellEnd g cell old new (Err (DiskFailed file)) = (file ≡ cell) × FailedAt g
 IsCellEnd g cell old new (Err Memory) = Unit {0}
 IsCellEnd g cell old new (Err (Damaged file fault)) = (file ≡ cell) × (IsTrue g.tells → StandsStill g old new → ShowsOfCell cell (g.seen old) fault)
 
--- what a read gives of a file shows this damage
+-- what a read gives of the service's file, or of the file of a cell of the configuration, shows this damage
 abbrev pub IsDamage : Registry → Image → ℕ → Damage → Type 0
-IsDamage registry img file fault = ((file ≡ SERVICE_FILE) × ShowsOfService registry img fault) ⊎ ShowsOfCell file img fault
+IsDamage registry img file fault = ((file ≡ SERVICE_FILE) × ShowsOfService registry img fault) ⊎ (IsSome (cell_of registry file) × ShowsOfCell file img fault)
 
 -- Why an opening came to nothing: calls of the disk on this file failed; or, where the count stood still, what the files showed at its start.
 abbrev pub IsOpenEnd : {D T : Type 0} → Ghosts D → Registry → D → D → Result T ClusterError → Type 0

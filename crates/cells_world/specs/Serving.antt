@@ -1,5 +1,6 @@
 -- What the service's call answers, and the step that is told from its reply.
 use Rattle.std.specs.Prelude.{Bool, true, false, IsTrue, Option, Some, None}
+use Rattle.disk_journal.specs.Entries.{AppendsAtMost}
 use Rattle.disk_journal.specs.declared.disk.Disk.{Ghosts}
 use Rattle.claim_types.specs.declared.message.Request.{Request}
 use Rattle.claim_types.specs.declared.message.Request.TheVariants.{Begin, Commit, Rollback, List as ListRequest, Range as RangeRequest, Claims, Classify, Page}
@@ -9,7 +10,7 @@ use Rattle.claim_types.specs.declared.message.Reply.{Reply}
 use Rattle.claim_types.specs.declared.message.Reply.TheVariants.{Begun, Ranged as RangedReply, Classified}
 use Rattle.claim_types.specs.declared.step.Step.{Step}
 use Rattle.claim_types.specs.declared.step.Step.TheVariants.{Leased, Denied as DeniedStep, Committed, RolledBack, Ranged, Answered}
-use Rattle.claim_service.specs.Node.{IsNode, Rests}
+use Rattle.claim_service.specs.Node.{IsNode, Rests, keeper, service}
 use Rattle.claim_service.specs.declared.node.TopologyNode.{TopologyNode}
 
 -- the step that a request asks for
@@ -44,3 +45,7 @@ pub record IsServing {D : Type 0} (g : Ghosts D) (d : D) (node : TopologyNode) :
   pub is : IsNode node
   pub live : IsTrue node.journal.live
   pub at_rest : Rests g d node
+
+-- nothing was written at any moment of the call
+abbrev pub WritesNothing : {D : Type 0} → Ghosts D → D → D → TopologyNode → Type 0
+WritesNothing g old new before = AppendsAtMost g service old new (keeper before) None

@@ -2,6 +2,7 @@
 use Rattle.std.specs.Prelude.{◌≡◌, ◌⊎◌, ℕ, ◌+◌, ◌≤◌, IsTrue, IsSome, List, ◌++◌, length, Some}
 use Rattle.std.specs.List.{Contains, slice_get, AllByRecursion}
 use Rattle.std.specs.FinMap as map
+use Rattle.cells_base.specs.Causes.{Rose}
 use Rattle.disk_journal.specs.declared.disk.Disk.{Ghosts}
 use Rattle.disk_journal.specs.Disk.{Image, IsImage}
 use Rattle.disk_journal.specs.Moments.{LeavesOnly}
@@ -84,10 +85,20 @@ HandsAt g place old new =
     (p : Packet) → slice_get (packets_of old.cluster.post) place ≡ Some p → (start : ClaimMap) (w : World) → IsInOrder old.cluster.registry start w → IsIn old.cluster w →
     Leads g w (after_message old.cluster.registry (place + 1) p.message w) old new
 
--- That call came to an end by an error: no step is told of it, and at each moment the files stood for the world before it or after it.
+-- the files stand for a world, or, where the disk's count of faults rose, for another
+abbrev pub StandsOrFailed : {D : Type 0} → Ghosts D → Registry → World → World → D → D → Type 0
+StandsOrFailed g registry told behind old new =
+    IsTrue g.tells → (img : Image) → IsImage (g.may_leave new) img → IsOf registry img told ⊎ (Rose (g.faults old) (g.faults new) × IsOf registry img behind)
+
+-- That call came to an end by an error: what is traced and noted is what the world before it says, or the world after it; at each moment the files stood
+-- for one of the two, and at the end for that one, or, where the disk's count rose, for the world after it.
 pub record BreaksThere {D N : Type 0} (g : Ghosts D) (w v : World) (old new : At D N) : Type 0 where
-  pub trace : new.cluster.trace.items ≡ old.cluster.trace.items
+  pub told : World
+  pub either : (told ≡ w) ⊎ (told ≡ v)
+  pub trace : told.trace ≡ new.cluster.trace.items
+  pub notes : told.notes ≡ new.cluster.notes.items
   pub moments : LeavesOnly g old.disk new.disk (IsOfEither old.cluster.registry w v)
+  pub stands : StandsOrFailed g old.cluster.registry told v old.disk new.disk
 
 abbrev pub BreaksAt : {D N : Type 0} → Ghosts D → ℕ → At D N → At D N → Type 0
 BreaksAt g place old new =
@@ -118,17 +129,18 @@ HandsOver g n before after old new =
     (es : List Event) × AllByRecursion IsHandOver es × (after ≡ course_behind old.cluster.registry w before es) × (new.cluster.takes ≡ old.cluster.takes + length es) × Goes g n old.cluster.registry w old new es
     × (Works n old.wire new.wire → AreOnWay old.cluster.registry w (way_at n old) es (way_at n new))
 
--- What events leave that came to an end by an error: the steps that are told are those of some first ones, all but the last at most; at each
--- moment the files stood for a world that first events lead to, and at the end for the world behind those that are told, or behind one more; and the wire
--- handed over the packets of them all.
+-- What events leave that came to an end by an error: the steps and the notes that are told are those of some first ones, all but the last at most; at each
+-- moment the files stood for a world that first events lead to, and at the end for the world behind those that are told, or, where the disk's count of faults
+-- rose, behind one more; and the wire handed over the packets of them all.
 pub record Breaks {D N : Type 0} (g : Ghosts D) (n : WireGhosts N) (registry : Registry) (w : World) (old new : At D N) (es : List Event) : Type 0 where
   pub told : List Event
   pub more : List Event
   pub cut : told ++ more ≡ es
   pub few : length more ≤ 1
   pub trace : (run registry told w).trace ≡ new.cluster.trace.items
+  pub notes : (run registry told w).notes ≡ new.cluster.notes.items
   pub moments : LeavesOnly g old.disk new.disk (IsReached registry w es)
-  pub stands : IsTrue g.tells → (img : Image) → IsImage (g.may_leave new.disk) img → IsOfEither registry (run registry told w) (run registry es w) img
+  pub stands : StandsOrFailed g registry (run registry told w) (run registry es w) old.disk new.disk
   pub handed : IsTrue n.tells → (given : List WirePacket) × (n.handed new.wire ≡ n.handed old.wire ++ given) × AreGiven registry w given es
 
 -- hand-overs came to such an end, from any world in order that the cluster was in

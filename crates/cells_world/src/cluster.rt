@@ -76,24 +76,24 @@ fn cell_of_change(line: &Line) -> Option<u16>
     }
 }
 
-// Ends the attempts of an agent that are due at this moment, each with a note.
-fn end_due(agent: &mut CellAgent, notes: &mut Vec<Note>, now: u64) -> Result<(), NoMemory>
+// Ends the attempts of an agent that are due at this moment, each with a note. There is room for as many notes as attempts wait.
+fn end_due(agent: &mut CellAgent, notes: &mut Vec<Note>, now: u64)
     requires agent { IsAgent agent.old }
-    ensures ended { OnOk result (kept_by agent.new
-        ≡ without_attempts (due_attempts agent.old.threshold now (kept_by agent.old)) (kept_by agent.old)) }
-    ensures notes { OnOk result (notes.new.items
-        ≡ notes.old.items ++ list_map (λ l. EndedNote l) (due_attempts agent.old.threshold now (kept_by agent.old))) }
+    requires room { vec_len notes.old + map.len (kept_by agent.old).pending ≤ vec_capacity notes.old }
+    ensures ended { kept_by agent.new
+        ≡ without_attempts (due_attempts agent.old.threshold now (kept_by agent.old)) (kept_by agent.old) }
+    ensures notes { notes.new.items
+        ≡ notes.old.items ++ list_map (λ l. EndedNote l) (due_attempts agent.old.threshold now (kept_by agent.old)) }
     ensures agent { IsAgent agent.new }
     ensures store { agent.new.store ≡ agent.old.store }
     ensures same { IsSameAgent agent.old agent.new }
 {
     for _ in 0..agent.pending() {
         let Some(lease) = agent.expire(now) else {
-            return Ok(());
+            return;
         };
-        notes.push(Note::Ended { lease })?;
+        notes.push_reserved(Note::Ended { lease });
     }
-    Ok(())
 }
 
 // The place of the agent of a cell.
@@ -164,9 +164,9 @@ impl Cluster {
         match self.post.sent()[at].message() {
             Message::Ask(request) => {
                 let served = serve(alloc, disk, &mut self.service, &self.registry, request)?;
+                trace(&mut self.trace, self.takes, served.step);
                 self.post
                     .send(alloc, wire, Message::Answer(served.reply), at as u64 + 1)?;
-                trace(&mut self.trace, self.takes, served.step);
                 Ok(())
             }
             Message::Answer(reply) => {
@@ -174,10 +174,10 @@ impl Cluster {
                     return Ok(());
                 };
                 let told = hear(alloc, disk, &mut self.cells[place], reply, now)?;
-                self.post
-                    .send_requests(alloc, wire, told.to_send.into_vec())?;
                 trace(&mut self.trace, self.takes, told.step);
                 note(&mut self.notes, &told.ended);
+                self.post
+                    .send_requests(alloc, wire, told.to_send.into_vec())?;
                 Ok(())
             }
         }
@@ -332,6 +332,7 @@ impl Cluster {
         ensures ready { OnOk result (IsReady D.Disk disk.now self.new) }
         ensures agents { self.new.cells.items ≡ self.old.cells.items }
         ensures notes { OnOk result (NotesMore self.old self.new) }
+        ensures unnoted { OnErr result (self.new.notes.items ≡ self.old.notes.items) }
         ensures handed { IsTrue N.tells → N.handed wire.new ≡ N.handed wire.old }
         ensures later { N.faults wire.old ≤ N.faults wire.new }
         ensures waits { OnOk result (self.new.waited ≡ self.old.waited) }
@@ -367,6 +368,7 @@ impl Cluster {
         ensures ready { OnOk result (IsReady D.Disk disk.now self.new) }
         ensures end { IfErr result (λ e. e ≡ ClusterError.Memory) }
         ensures notes { OnOk result (NotesMore self.old self.new) }
+        ensures unnoted { OnErr result (self.new.notes.items ≡ self.old.notes.items) }
         ensures handed { IsTrue N.tells → N.handed wire.new ≡ N.handed wire.old }
         ensures later { N.faults wire.old ≤ N.faults wire.new }
         ensures waits { OnOk result (self.new.waited ≡ self.old.waited) }
@@ -408,6 +410,7 @@ impl Cluster {
             (PutsFor (Puts N.Wire) (Reconcile cell) wire.old wire.new self.old.post self.new.post) }
         ensures ready { OnOk result (IsReady D.Disk disk.now self.new) }
         ensures notes { OnOk result (NotesMore self.old self.new) }
+        ensures unnoted { OnErr result (self.new.notes.items ≡ self.old.notes.items) }
         ensures handed { IsTrue N.tells → N.handed wire.new ≡ N.handed wire.old }
         ensures later { N.faults wire.old ≤ N.faults wire.new }
         ensures waits { OnOk result (self.new.waited ≡ self.old.waited) }
@@ -418,8 +421,9 @@ impl Cluster {
         };
         let agent = &mut self.cells[place];
         let requests = agent.ask_reconcile(alloc)?;
-        end_due(agent, &mut self.notes, now)?;
+        self.notes.reserve(agent.pending() as usize)?;
         self.post.send_requests(alloc, wire, requests.into_vec())?;
+        end_due(agent, &mut self.notes, now);
         Ok(Begun::Reconciles)
     }
 
@@ -490,6 +494,7 @@ impl Cluster {
         ensures ready { OnOk result (IsReady D.Disk disk.now self.new) }
         ensures end { IfErr result (λ e. e ≡ ClusterError.Memory) }
         ensures notes { OnOk result (NotesMore self.old self.new) }
+        ensures unnoted { OnErr result (self.new.notes.items ≡ self.old.notes.items) }
         ensures handed { IsTrue N.tells → N.handed wire.new ≡ N.handed wire.old }
         ensures later { N.faults wire.old ≤ N.faults wire.new }
         ensures waits { OnOk result (self.new.waited ≡ waited_by line.now self.old.waited) }
@@ -581,8 +586,8 @@ impl Cluster {
     /// only where as many packets were taken, where a put was lost, or where the line's own event came to it.
     ///
     /// Errors: [`ClusterError::DiskFailed`] where calls of the disk on this file failed; [`ClusterError::Memory`]. The cluster
-    /// is not used again then; its trace is that of some first events of the line, and the files stand for the world behind
-    /// these, or behind one more.
+    /// is not used again then; its trace and notes are those of some first events of the line, and the files stand for the
+    /// world behind these, or, only where the disk's count of faults rose, behind one more.
     pub fn line<D: Disk, N: Wire>(
         &mut self,
         alloc: Global,

@@ -60,7 +60,8 @@ fn step_recorded(recorded: Option<LeaseId>, change: Option<Change>) -> Option<St
     }
 }
 
-/// Has a cell hear a reply, and tells the step that this was. Whatever memory the step needs is taken before the call.
+/// Has a cell hear a reply, and tells the step that this was. Whatever memory the step needs is taken
+/// before the call; where memory is wanting the disk was not called.
 pub fn hear<D: Disk>(
     alloc: Global,
     disk: &mut D,
@@ -82,6 +83,7 @@ pub fn hear<D: Disk>(
     ensures same { IsSameAgent agent.old agent.new }
     ensures failed { (file : ℕ) → IsErrOf result (ClusterError.DiskFailed file) →
         (file ≡ agent.old.store.cell) × FailedAt D.Disk agent.old.store.cell disk.old disk.new }
+    ensures memory { IsErrOf result ClusterError.Memory → disk.new ≡ disk.old }
     ensures whole { (file : ℕ) (fault : Damage) → IsErrOf result (ClusterError.Damaged file fault) → ⊥ }
 {
     let change = change_waiting(alloc, agent, reply)?;

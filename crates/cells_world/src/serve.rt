@@ -1,5 +1,5 @@
 //! The service answers a request.
-ghost use Rattle.std.specs.Prelude.{◌≡◌, ℕ, true, IsTrue, IfOk, OnOk, IsErrOf};
+ghost use Rattle.std.specs.Prelude.{◌≡◌, ℕ, false, true, IsTrue, IfOk, OnOk, OnErr, IsErrOf};
 ghost use Rattle.claim_types.specs.MessageBounds.{IsRequest};
 ghost use Rattle.claim_map.specs.Bounds.{AreCells};
 ghost use Rattle.claim_map.specs.Entries.{entry_of};
@@ -8,7 +8,7 @@ ghost use Rattle.claim_service.specs.State.{kept, kept_after, owed};
 ghost use Rattle.claim_service.specs.declared.limits.TheConstants.{SERVICE_FILE};
 ghost use Rattle.disk_journal.specs.Effects.{FailedAt};
 ghost use Rattle.disk_journal.specs.Entries.{TouchesOnly};
-ghost use Rattle.cells_world.specs.Serving.{step_asked, step_unwritten, step_told, IsServing};
+ghost use Rattle.cells_world.specs.Serving.{step_asked, step_unwritten, step_told, IsServing, WritesNothing};
 ghost use Rattle.cells_world.specs.declared.fault.ClusterError.TheVariants.{DiskFailed, Damaged};
 
 use crate::fault::{ClusterError, Damage};
@@ -113,7 +113,8 @@ fn step_told(
     fresh: bool,
     reply: &Reply,
 ) -> Result<Option<Step>, NoMemory>
-    ensures { IfOk result (λ step. step ≡ step_told asked fresh reply.now) }
+    ensures step { IfOk result (λ step. step ≡ step_told asked fresh reply.now) }
+    ensures unwritten { OnErr result (fresh ≡ false) }
 {
     if fresh {
         return Ok(step_written(asked, reply));
@@ -122,7 +123,7 @@ fn step_told(
 }
 
 /// Has the service answer a request, and tells the step that this was. Whatever memory a step that is written down needs is
-/// taken before the call.
+/// taken before the call; where memory is wanting nothing was written.
 pub fn serve<D: Disk>(
     alloc: Global,
     disk: &mut D,
@@ -146,6 +147,7 @@ pub fn serve<D: Disk>(
     ensures others { TouchesOnly D.Disk SERVICE_FILE disk.old disk.new }
     ensures failed { (file : ℕ) → IsErrOf result (ClusterError.DiskFailed file) →
         (file ≡ SERVICE_FILE) × FailedAt D.Disk SERVICE_FILE disk.old disk.new }
+    ensures memory { IsErrOf result ClusterError.Memory → WritesNothing D.Disk disk.old disk.new service.old }
     ensures whole { (file : ℕ) (fault : Damage) → IsErrOf result (ClusterError.Damaged file fault) → ⊥ }
 {
     let asked = step_asked(alloc, request)?;

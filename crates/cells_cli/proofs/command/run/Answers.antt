@@ -17,6 +17,7 @@ use Rattle.cells_cli.proofs.Reported.{EndsWith, at_once, config_ends, config_oth
 use Rattle.claim_map.specs.Registry.{Registry}
 use Rattle.cells_cli.specs.Report.{WritesFrontOf}
 use Rattle.cells_cli.specs.Ups.{RunsUp}
+use Rattle.cells_cli.specs.Went.{moment_shown}
 use Rattle.cells_cli.proofs.Reporting.{is_report, config_fails}
 use Rattle.cells_cli.proofs.command.run.Goals as goal
 
@@ -97,7 +98,7 @@ returns-in-Ok-Run-clause-made g c a t files asked =
 pub returns-in-Ok-Run-clause-up : goal.returns-in-Ok-Run-clause-up
 returns-in-Ok-Run-clause-up g c a registry asked =
     let told = asked_work g.A.Source c.args.words.now c.args.config.now c.in-Some.command (sym c.in-Some.is ∙ c.command_of.ensures) a c.in-Ok-Run.field-0 (Run c.in-Ok-Run.registry) c.in-Ok-Run.field-0-is c.in-Ok-Run.ensures.told in
-    subst (λ (r : Registry). RunsUp g.B.Source g.W.Sink g.D.Disk g.N.Wire r c.args.script.now c.operate.new.script c.args.out.now c.operate.new.out c.args.disk.now c.operate.new.disk c.args.wire.now c.operate.new.wire c.operate.result)
+    subst (λ (r : Registry). RunsUp g.B.Source g.W.Sink g.D.Disk g.N.Wire (moment_shown g.C.Clock c.args.clock.now) r c.args.script.now c.operate.new.script c.args.out.now c.operate.new.out c.args.disk.now c.operate.new.disk c.args.wire.now c.operate.new.wire c.operate.result)
     (same_registry c.in-Ok-Run.registry registry (job_of (command_of c.args.words.now) (g.A.Source.left c.args.config.now)) told asked) c.operate.ensures.runs
 
 pub returns-in-Err-clause-up : goal.returns-in-Err-clause-up
@@ -106,5 +107,5 @@ returns-in-Err-clause-up g c a registry asked =
     let told = asked_of g.A.Source c.args.words.now c.args.config.now c.in-Some.command (sym c.in-Some.is ∙ c.command_of.ensures) a (Err fault) c.in-Err.ensures.told in
     let own = c.from.ensures in
     let ends = subst (λ (s : Status). EndsWith s c.finish-in-Err.result) own c.finish-in-Err.ensures.ends in
-    config_fails g.B.Source g.W.Sink g.D.Disk g.N.Wire registry c.args.script.now c.args.out.now c.finish-in-Err.new.out c.args.disk.now c.args.wire.now fault (job_of (command_of c.args.words.now) (g.A.Source.left c.args.config.now)) told asked
+    config_fails g.B.Source g.W.Sink g.D.Disk g.N.Wire (moment_shown g.C.Clock c.args.clock.now) registry c.args.script.now c.args.out.now c.finish-in-Err.new.out c.args.disk.now c.args.wire.now fault (job_of (command_of c.args.words.now) (g.A.Source.left c.args.config.now)) told asked
     c.finish-in-Err.result ends (λ h. c.finish-in-Err.ensures.told h) (λ h. subst (λ (s : Status). WritesFrontOf g.W.Sink c.args.out.now c.finish-in-Err.new.out s) own (c.finish-in-Err.ensures.part h))

@@ -6,7 +6,8 @@ use Rattle.cells_world.specs.World.{at as moment}
 use Rattle.cells_cli.specs.Doing.{DoesLine, Tells}
 use Rattle.cells_cli.specs.Told.{answered_text}
 use Rattle.cells_cli.proofs.Doing.{answered, broken_off}
-use Rattle.cells_cli.proofs.Went.{went_line}
+use Rattle.cells_cli.specs.Went.{moment_shown}
+use Rattle.cells_cli.proofs.Went.{is_shown, still_shown, went_line}
 use Rattle.cells_cli.proofs.up.do_line.Goals as goal
 
 -- what came behind those that were there
@@ -18,12 +19,14 @@ returns-in-Ok-clause-does g c =
     let before = moment c.args.cluster.now c.args.disk.now c.args.wire.now in
     let after = moment c.line.new.self c.line.new.disk c.line.new.wire in
     let grows = c.in-Ok.ensures.grows in
-    let went = went_line g.D.Disk g.N.Wire before after c.args.number c.now-now.result c.args.line.now c.in-Ok.answer grows c.in-Ok.ensures.registry c.line.ensures.later.1 c.in-Ok.ensures.follows in
+    let shown = moment_shown g.C.Clock c.args.clock.now in
+    let read = is_shown g.C.Clock.tells (g.C.Clock.moment c.args.clock.now) c.now-now.result (λ t. c.now-now.ensures.moment t) in
+    let went = went_line g.D.Disk g.N.Wire shown before after c.args.number c.now-now.result c.args.line.now c.in-Ok.answer grows c.in-Ok.ensures.registry c.in-Ok.ensures.waits read c.line.ensures.later c.in-Ok.ensures.follows in
     let notes : c.behind.result.now ≡ grows.notes = c.behind.ensures ∙ new_ones c.args.cluster.now.notes.items grows.notes c.line.new.self.notes.items c.notes-notes.result.now c.notes.result.now c.notes-notes.ensures c.notes.ensures grows.noted in
     let steps : c.behind-in-Ok.result.now ≡ grows.steps = c.behind-in-Ok.ensures ∙ new_ones c.args.cluster.now.trace.items grows.steps c.line.new.self.trace.items c.trace-steps.result.now c.trace.result.now c.trace-steps.ensures c.trace.ensures grows.trace in
     let told = subst (λ (ss : List Transition). Tells g.W.Sink (answered_text c.args.number grows.notes ss c.in-Ok.answer) c.args.out.now c.tell_line.new.out c.tell_line.result) steps
     (subst (λ (ns : List Note). Tells g.W.Sink (answered_text c.args.number ns c.behind-in-Ok.result.now c.in-Ok.answer) c.args.out.now c.tell_line.new.out c.tell_line.result) notes c.tell_line.ensures.told) in
-    answered g.W.Sink g.D.Disk g.N.Wire before after c.args.out.now c.tell_line.new.out g.met.D.Disk.only_now c.requires.ready
+    answered g.W.Sink g.D.Disk g.N.Wire shown before after c.args.out.now c.tell_line.new.out g.met.D.Disk.only_now c.requires.ready
     (record { number = c.args.number; line = c.args.line.now; notes = grows.notes; steps = grows.steps; answer = c.in-Ok.answer }) went c.in-Ok.ensures.ready c.tell_line.result told
 
 pub returns-in-Err-clause-does : goal.returns-in-Err-clause-does
@@ -32,8 +35,18 @@ returns-in-Err-clause-does g c =
     let after = moment c.line.new.self c.line.new.disk c.line.new.wire in
     let steps : c.past-in-Err.result.now ≡ drop (length c.args.cluster.now.trace.items) c.line.new.self.trace.items =
     c.past-in-Err.ensures ∙ ap (λ (xs : List Transition). drop (length xs) c.trace-in-Err.result.now) c.trace-steps.ensures ∙ ap (drop (length c.args.cluster.now.trace.items)) c.trace-in-Err.ensures in
-    let off = broken_off g.W.Sink g.D.Disk g.N.Wire before after c.args.out.now c.tell_end-told.new.out g.met.D.Disk.only_now c.requires.ready
+    let notes : c.past.result.now ≡ drop (length c.args.cluster.now.notes.items) c.line.new.self.notes.items =
+    c.past.ensures ∙ ap (λ (xs : List Note). drop (length xs) c.notes-in-Err.result.now) c.notes-notes.ensures ∙ ap (drop (length c.args.cluster.now.notes.items)) c.notes-in-Err.ensures in
+    let shown = moment_shown g.C.Clock c.args.clock.now in
+    let read = is_shown g.C.Clock.tells (g.C.Clock.moment c.args.clock.now) c.now-now.result (λ t. c.now-now.ensures.moment t) in
+    let off = broken_off g.W.Sink g.D.Disk g.N.Wire shown before after c.args.out.now c.tell_end-told.new.out g.met.D.Disk.only_now c.requires.ready
     (record { number = c.args.number; line = c.args.line.now; notes = c.past.result.now; steps = c.past-in-Err.result.now })
-    (record { now = c.now-now.result; later = c.line.ensures.later.1; line = c.in-Err.ensures.breaks; steps = steps })
-    c.in-Err.error c.tell_end-told.result c.tell_end-told.ensures.told in
-    subst (λ r. DoesLine g.W.Sink g.D.Disk g.N.Wire c.args.number c.args.line.now before after c.args.out.now c.tell_end-told.new.out r) (sym c.stopped.ensures) off
+    (record { clock = c.now-now.result; read = read; later = c.line.ensures.later.1; line = c.in-Err.ensures.breaks; steps = steps; notes = notes })
+    c.in-Err.error c.in-Err.ensures.end c.tell_end-told.result c.tell_end-told.ensures.told in
+    subst (λ r. DoesLine g.W.Sink g.D.Disk g.N.Wire shown c.args.number c.args.line.now before after c.args.out.now c.tell_end-told.new.out r) (sym c.stopped.ensures) off
+
+pub returns-in-Ok-clause-clock : goal.returns-in-Ok-clause-clock
+returns-in-Ok-clause-clock g c = still_shown g.C.Clock.tells (g.C.Clock.moment c.args.clock.now) (g.C.Clock.moment c.now-now.new.self) (λ t. c.now-now.ensures.stays t)
+
+pub returns-in-Err-clause-clock : goal.returns-in-Err-clause-clock
+returns-in-Err-clause-clock g c = still_shown g.C.Clock.tells (g.C.Clock.moment c.args.clock.now) (g.C.Clock.moment c.now-now.new.self) (λ t. c.now-now.ensures.stays t)

@@ -6,6 +6,14 @@ use Rattle.reconciler.specs.Agent.{kept_by}
 use Rattle.cells_world.proofs.Reconcile.{ends_more, ends_kept, ends_noted, counted_out}
 use Rattle.cells_world.proofs.cluster.end_due.Goals as goal
 
+-- there is room for its note
+pub push_reserved-requires : goal.push_reserved-requires
+push_reserved-requires c =
+    let room = c.loop.invariant.room in
+    let more = c.loop-test.true in
+    let waited = c.pending-end.ensures in
+    omega (arith, room, more, waited)
+
 -- one more attempt has ended
 pub loop-preserved : goal.loop-preserved
 loop-preserved c =
@@ -19,11 +27,12 @@ loop-preserved c =
         threshold = ended.same.threshold ∙ same.threshold;
       };
       ends = ends_more c.args.agent.now.threshold c.args.now (kept_by c.args.agent.now) c.args.notes.now.items c.loop.counter (kept_by c.loop.agent) c.loop.notes.items c.loop.invariant.ends
-          c.in-Some.lease (kept_by c.expire.new.self) c.push.new.self.items
+          c.in-Some.lease (kept_by c.expire.new.self) c.push_reserved.new.self.items
           (subst (λ t. Some c.in-Some.lease ≡ slice_get (due_attempts t c.args.now (kept_by c.loop.agent)) 0) same.threshold ended.least)
           ended.ended
           (subst (λ t. due_attempts t c.args.now (kept_by c.expire.new.self) ≡ drop 1 (due_attempts t c.args.now (kept_by c.loop.agent))) same.threshold ended.rest)
-          c.in_ok-push.ensures.items;
+          c.push_reserved.ensures.items;
+      room = let before = c.loop.invariant.room in let len = c.push_reserved.ensures.len in let same = c.push_reserved.ensures.capacity in omega (arith, before, len, same);
     }
 
 -- as many have ended as waited

@@ -38,6 +38,7 @@ returns-in_ok-begin_on_wire-in_default-line g c =
       puts = c.in_ok-begin_on_wire-in_default-line.ensures.puts;
       waits = c.in_ok-begin_on_wire-in_default-line.ensures.waits;
       notes = notes_same old new (ap (λ v. v.items) same.notes);
+      unnoted = tt;
       end = tt;
       handed = c.begin_on_wire.ensures.handed;
       later = c.begin_on_wire.ensures.later;

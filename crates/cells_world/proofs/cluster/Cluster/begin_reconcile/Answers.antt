@@ -4,7 +4,9 @@ use Rattle.std.specs.List.{Contains, slice_get}
 use Rattle.std.specs.Vec.{with_item}
 use Rattle.std.proofs.lemmas.Option.{slice_get_read, slice_get_within}
 use Rattle.cells_base.proofs.Members.{at_place}
+use Rattle.claim_types.specs.declared.rule.Note.TheVariants.{Ended as EndedNote}
 use Rattle.claim_laws.specs.Acts.{packet_of}
+use Rattle.claim_laws.specs.Nodes.{due_attempts}
 use Rattle.cell_store.specs.declared.store.CellStore.{CellStore}
 use Rattle.reconciler.specs.Agent.{kept_by}
 use Rattle.reconciler.specs.declared.agent.CellAgent.{CellAgent}
@@ -50,7 +52,10 @@ end_due-requires g c =
     let cells = c.args.self.now.cells.items in
     let k : CellAgent = c.index_mut-agent.result.now in
     let found = subst (λ xs. IsPlaceOf xs c.args.cell c.in-Some.place) c.as_slice.ensures.value c.in-Some.ensures.found in
-    record { agent = (c.requires.ready.cells k (inside cells c.args.cell c.in-Some.place k found c.index_mut-agent.ensures.value)).agent }
+    record {
+      agent = (c.requires.ready.cells k (inside cells c.args.cell c.in-Some.place k found c.index_mut-agent.ensures.value)).agent;
+      room = let room = c.in_ok-reserve.ensures.ok in let waits = c.pending.ensures in omega (arith, room, waits);
+    }
 
 pub send_requests-requires-clause-bounds : goal.send_requests-requires-clause-bounds
 send_requests-requires-clause-bounds g c =
@@ -77,12 +82,12 @@ returns-clause-acts g c = λ start w order is_in. (
     let found = subst (λ xs. IsPlaceOf xs c.args.cell c.in-Some.place) c.as_slice.ensures.value c.in-Some.ensures.found in
     let stands = there old.cells.items c.args.cell c.in-Some.place k found c.index_mut-agent.ensures.value in
     let member = inside old.cells.items c.args.cell c.in-Some.place k found c.index_mut-agent.ensures.value in
-    let due = c.in_ok-end_due.ensures in
+    let due = c.end_due.ensures in
     reconciles_in old new c.args.now w is_in k c.end_due.new.agent member due.store
     (puts_set old.registry old.cells.items c.in-Some.place k c.end_due.new.agent c.requires.ready.agents stands (ap (λ (s : CellStore). s.cell) due.store))
     (c.requires.ready.thresholds k member) refl refl refl
     (c.in_ok-send_requests.ensures.sends.sent ∙ ap (λ rs. packets_of old.post ++ list_map packet_of rs) (c.into_vec.ensures ∙ c.in_ok-requests.ensures))
-    due.notes due.ended c.args.cell (of_cell old.cells.items c.args.cell c.in-Some.place k found c.index_mut-agent.ensures.value))
+    (due.notes ∙ ap (λ ns. ns ++ list_map (λ l. EndedNote l) (due_attempts k.threshold c.args.now (kept_by k))) c.reserve.ensures.items) due.ended c.args.cell (of_cell old.cells.items c.args.cell c.in-Some.place k found c.index_mut-agent.ensures.value))
 
 pub returns-clause-ready : goal.returns-clause-ready
 returns-clause-ready g c =
@@ -101,7 +106,7 @@ returns-clause-ready g c =
     let found = subst (λ xs. IsPlaceOf xs c.args.cell c.in-Some.place) c.as_slice.ensures.value c.in-Some.ensures.found in
     let stands = there old.cells.items c.args.cell c.in-Some.place k found c.index_mut-agent.ensures.value in
     let member = inside old.cells.items c.args.cell c.in-Some.place k found c.index_mut-agent.ensures.value in
-    let due = c.in_ok-end_due.ensures in
+    let due = c.end_due.ensures in
     let same = ap (λ (s : CellStore). s.cell) due.store in
     ready_acted g.D.Disk c.args.disk.now old new c.requires.ready refl c.in_ok-send_requests.ensures.packets k c.end_due.new.agent member due.store due.same.threshold due.agent refl
     (puts_set old.registry old.cells.items c.in-Some.place k c.end_due.new.agent c.requires.ready.agents stands same)

@@ -1,21 +1,23 @@
-use Rattle.std.proofs.Common.{inl, ◌≡◌, ◌<◌, ℕ, List, refl, sym, ◌∙◌, ap, subst, Some, None, length, get_or, ◌+◌, ◌++◌, ◌∷◌, [], arith}
+use Rattle.std.proofs.Common.{inl, inr, Err, ◌≡◌, ◌<◌, ℕ, List, refl, sym, ◌∙◌, ap, subst, Some, None, length, get_or, ◌+◌, ◌++◌, ◌∷◌, [], arith}
 use Rattle.std.specs.Prelude.{map as list_map}
 use Rattle.std.specs.List.{Contains, slice_get}
 use Rattle.std.specs.Vec.{with_item}
 use Rattle.std.proofs.lemmas.Option.{slice_get_read, slice_get_within}
 use Rattle.cells_base.proofs.Members.{at_place}
 use Rattle.disk_journal.specs.declared.disk.Disk.{Ghosts}
+use Rattle.disk_journal.specs.Disk.{IsImage}
 use Rattle.disk_journal.proofs.Moments.{started}
 use Rattle.claim_types.specs.MessageBounds.{IsReply}
 use Rattle.claim_map.specs.Legal.{Message as Said, ask, answer}
 use Rattle.claim_map.proofs.Bounded.{due_bounds}
-use Rattle.claim_laws.specs.Acts.{packet_of, after_message}
+use Rattle.claim_map.specs.Due.{due as due_of}
+use Rattle.claim_laws.specs.Acts.{packet_of, after_due, after_heard, after_message}
 use Rattle.claim_laws.specs.Bounded.{IsMessage}
 use Rattle.claim_laws.specs.Files.{map_of}
 use Rattle.claim_laws.specs.World.{Packet, World}
 use Rattle.claim_service.specs.State.{kept, owed}
 use Rattle.cell_store.specs.Store.{stored}
-use Rattle.reconciler.specs.Agent.{kept_by}
+use Rattle.reconciler.specs.Agent.{heard_by, kept_by}
 use Rattle.reconciler.specs.declared.agent.CellAgent.{CellAgent}
 use Rattle.cells_world.specs.Cluster.{traced_by, noted_by}
 use Rattle.cells_world.specs.Packets.{message_of}
@@ -29,11 +31,11 @@ use Rattle.cells_world.specs.declared.post.Sent.{Sent}
 use Rattle.cells_world.proofs.Breaking.{on_err}
 use Rattle.cells_world.proofs.Asked.{sends_bounds}
 use Rattle.cells_world.proofs.Growing.{grows_by, grows_none}
-use Rattle.cells_world.proofs.Heard.{heard_leads, heard_moments, nobody_leads, receiver_is, reply_comes}
+use Rattle.cells_world.proofs.Heard.{heard_leads, heard_moments, heard_notes, heard_stands, heard_trace, nobody_leads, receiver_is, reply_comes}
 use Rattle.cells_world.proofs.Places.{puts_set, agents_set, same_some}
 use Rattle.cells_world.proofs.Posted.{mapped}
 use Rattle.cells_world.proofs.Ready.{ready_served, ready_heard}
-use Rattle.cells_world.proofs.Served.{ready_is_of, served_leads, served_moments}
+use Rattle.cells_world.proofs.Served.{fails_so, ready_is_of, served_leads, served_moments, served_nothing, served_notes, served_stands, served_trace}
 use Rattle.cells_world.proofs.cluster.Cluster.hand.Goals as goal
 
 -- the packet of the place is the one that is handed over
@@ -133,10 +135,11 @@ returns-in_ok-send-in-Ask-clause-hands g c = λ p at_p start w order is_in. (
     let message_is : p.message ≡ ask request = carries old.post c.args.at c.index-sent-at.result c.requires.place (c.index-sent-at.is ∙ ap (λ xs. get_or xs c.args.at c.index-sent-at.result) c.sent.ensures) p at_p (AsAsk request) (sym c.message.ensures ∙ c.in-Ask.is) in
     subst (λ m. Leads g.D.Disk w (after_message old.registry (c.args.at + 1) m w) (moment old c.args.disk.now c.args.wire.now) (moment new c.serve.new.disk c.send.new.wire)) (sym message_is)
     (served_leads g.D.Disk old c.args.disk.now c.serve.new.disk c.args.at request due c.requires.ready refl c.serve.ensures.any_moment start w order is_in
-    new c.args.wire.now c.send.new.wire c.in_ok-served-in-Ask.ensures.keeps refl
-    (c.in_ok-send-in-Ask.ensures.sends.sent ∙ ap (λ r. packets_of old.post ++ record { message = answer r; answers = c.args.at + 1 } ∷ []) c.in_ok-served-in-Ask.ensures.reply)
+    new c.in_ok-served-in-Ask.ensures.keeps refl
     (c.trace.ensures ∙ ap (λ t. traced_by c.in_ok-served-in-Ask.served.step old.takes t) c.reserve.ensures.items ∙ ap (λ st. traced_by st old.takes old.trace.items) c.in_ok-served-in-Ask.ensures.step)
-    c.reserve-2.ensures.items refl))
+    c.reserve-2.ensures.items c.args.wire.now c.send.new.wire
+    (c.in_ok-send-in-Ask.ensures.sends.sent ∙ ap (λ r. packets_of old.post ++ record { message = answer r; answers = c.args.at + 1 } ∷ []) c.in_ok-served-in-Ask.ensures.reply)
+    refl))
 
 pub returns-in_ok-send-in-Ask-clause-ready : goal.returns-in_ok-send-in-Ask-clause-ready
 returns-in_ok-send-in-Ask-clause-ready g c =
@@ -178,11 +181,12 @@ returns-in_ok-send_requests-in-Answer-clause-hands g c = λ p at_p start w order
     let comes = ap (λ m. after_message old.registry (c.args.at + 1) m w) message_is ∙ reply_comes old w k reply (is_in.cells k inside) of_cell in
     subst (λ v. Leads g.D.Disk w v (moment old c.args.disk.now c.args.wire.now) (moment new c.hear.new.disk c.send_requests.new.wire)) (sym comes)
     (heard_leads g.D.Disk old c.args.disk.now c.hear.new.disk reply k c.requires.ready inside of_cell c.hear.ensures.any_moment start w order is_in
-    new c.args.wire.now c.send_requests.new.wire c.hear.new.agent told.tree told.agent c.hear.ensures.same.store.cell refl
+    new c.hear.new.agent told.tree told.agent c.hear.ensures.same.store.cell refl
     (puts_set old.registry old.cells.items c.in-Some.place k c.hear.new.agent c.requires.ready.agents there c.hear.ensures.same.store.cell)
-    (c.in_ok-send_requests-in-Answer.ensures.sends.sent ∙ ap (λ rs. packets_of old.post ++ list_map packet_of rs) (c.into_vec.ensures ∙ told.sends))
     (c.trace-in-Answer.ensures ∙ ap (λ t. traced_by c.in_ok-told-in-Answer.told.step old.takes t) c.reserve.ensures.items ∙ ap (λ st. traced_by st old.takes old.trace.items) told.step)
     (c.note.ensures ∙ ap (λ t. noted_by c.in_ok-told-in-Answer.told.ended t) c.reserve-2.ensures.items ∙ ap (λ en. noted_by en old.notes.items) told.ended)
+    c.args.wire.now c.send_requests.new.wire
+    (c.in_ok-send_requests-in-Answer.ensures.sends.sent ∙ ap (λ rs. packets_of old.post ++ list_map packet_of rs) (c.into_vec.ensures ∙ told.sends))
     refl))
 
 pub returns-in_ok-send_requests-in-Answer-clause-ready : goal.returns-in_ok-send_requests-in-Answer-clause-ready
@@ -268,39 +272,77 @@ breaks_by g w old new is = subst (λ x. BreaksThere g w x old new) is
 pub returns-in_err-reserve-clause-breaks : goal.returns-in_err-reserve-clause-breaks
 returns-in_err-reserve-clause-breaks g c =
     on_err c.from_residual.result (λ p at_p start w order is_in. record {
-      trace = c.reserve.ensures.items;
+      told = w;
+      either = inl refl;
+      trace = is_in.trace ∙ sym c.reserve.ensures.items;
+      notes = is_in.notes;
       moments = λ tells. started g.D.Disk c.args.disk.now _ g.met.D.Disk.only_now (λ img is. inl (ready_is_of g.D.Disk c.args.disk.now c.args.self.now w c.requires.ready tells is_in img is));
+      stands = λ tells img is. inl (ready_is_of g.D.Disk c.args.disk.now c.args.self.now w c.requires.ready tells is_in img is);
     })
 
 pub returns-in_err-reserve-2-clause-breaks : goal.returns-in_err-reserve-2-clause-breaks
 returns-in_err-reserve-2-clause-breaks g c =
     on_err c.from_residual-in_err-reserve-2.result (λ p at_p start w order is_in. record {
-      trace = c.reserve.ensures.items;
+      told = w;
+      either = inl refl;
+      trace = is_in.trace ∙ sym c.reserve.ensures.items;
+      notes = is_in.notes ∙ sym c.reserve-2.ensures.items;
       moments = λ tells. started g.D.Disk c.args.disk.now _ g.met.D.Disk.only_now (λ img is. inl (ready_is_of g.D.Disk c.args.disk.now c.args.self.now w c.requires.ready tells is_in img is));
+      stands = λ tells img is. inl (ready_is_of g.D.Disk c.args.disk.now c.args.self.now w c.requires.ready tells is_in img is);
     })
 
 -- the service failed, or there was no room for its reply
 pub returns-in_err-served-in-Ask-clause-breaks : goal.returns-in_err-served-in-Ask-clause-breaks
 returns-in_err-served-in-Ask-clause-breaks g c =
     on_err c.from_residual-in_err-served-in-Ask.result (λ p at_p start w order is_in. (
+    let old : Cluster = c.args.self.now in
     let request = c.in-Ask.request in
-    let message_is = carries c.args.self.now.post c.args.at c.index-sent-at.result c.requires.place (c.index-sent-at.is ∙ ap (λ xs. get_or xs c.args.at c.index-sent-at.result) c.sent.ensures) p at_p (AsAsk request) (sym c.message.ensures ∙ c.in-Ask.is) in
+    let due = owed old.registry (kept old.service.state) request in
+    let message_is = carries old.post c.args.at c.index-sent-at.result c.requires.place (c.index-sent-at.is ∙ ap (λ xs. get_or xs c.args.at c.index-sent-at.result) c.sent.ensures) p at_p (AsAsk request) (sym c.message.ensures ∙ c.in-Ask.is) in
+    let moments = served_moments g.D.Disk old c.args.disk.now c.serve.new.disk c.args.at request due c.requires.ready refl c.serve.ensures.any_moment start w order is_in in
+    let failed = c.in_err-served-in-Ask.was in
     by_message g.D.Disk w _ _ (c.args.at + 1) p.message (ask request) message_is (record {
-      trace = c.reserve.ensures.items;
-      moments = served_moments g.D.Disk c.args.self.now c.args.disk.now c.serve.new.disk c.args.at request (owed c.args.self.now.registry (kept c.args.self.now.service.state) request) c.requires.ready refl c.serve.ensures.any_moment start w order is_in;
+      told = w;
+      either = inl refl;
+      trace = is_in.trace ∙ sym c.reserve.ensures.items;
+      notes = is_in.notes ∙ sym c.reserve-2.ensures.items;
+      moments = moments;
+      stands = fails_so g.D.Disk old.registry w _ c.args.disk.now c.serve.new.disk g.met.D.Disk.counts_now moments c.in_err-served-in-Ask.field-0.0
+          (λ is. served_nothing g.D.Disk old c.args.disk.now c.serve.new.disk c.args.at request due c.requires.ready refl c.serve.ensures.any_moment start w order is_in g.met.D.Disk.counts_now (c.serve.ensures.memory (failed ∙ ap Err is)))
+          (λ file is. (c.serve.ensures.failed file (failed ∙ ap Err is)).1.0)
+          (λ file fault is. c.serve.ensures.whole file fault (failed ∙ ap Err is));
     })))
 
+-- its reply could not be sent: the step is told
 pub returns-in_err-send-in-Ask-clause-breaks : goal.returns-in_err-send-in-Ask-clause-breaks
 returns-in_err-send-in-Ask-clause-breaks g c =
     on_err c.from_residual-in_err-send-in-Ask.result (λ p at_p start w order is_in. (
+    let old : Cluster = c.args.self.now in
+    let unsent : Cluster = record {
+      registry = c.args.self.now.registry;
+      service = c.serve.new.service;
+      cells = c.args.self.now.cells;
+      post = c.args.self.now.post;
+      trace = c.trace.new.trace;
+      notes = c.reserve-2.new.self;
+      takes = c.args.self.now.takes;
+      waited = c.args.self.now.waited;
+    } in
     let request = c.in-Ask.request in
-    let message_is = carries c.args.self.now.post c.args.at c.index-sent-at.result c.requires.place (c.index-sent-at.is ∙ ap (λ xs. get_or xs c.args.at c.index-sent-at.result) c.sent.ensures) p at_p (AsAsk request) (sym c.message.ensures ∙ c.in-Ask.is) in
+    let due = owed old.registry (kept old.service.state) request in
+    let message_is = carries old.post c.args.at c.index-sent-at.result c.requires.place (c.index-sent-at.is ∙ ap (λ xs. get_or xs c.args.at c.index-sent-at.result) c.sent.ensures) p at_p (AsAsk request) (sym c.message.ensures ∙ c.in-Ask.is) in
+    let trace_is = c.trace.ensures ∙ ap (λ t. traced_by c.in_ok-served-in-Ask.served.step old.takes t) c.reserve.ensures.items ∙ ap (λ st. traced_by st old.takes old.trace.items) c.in_ok-served-in-Ask.ensures.step in
+    let ready = ready_served g.D.Disk c.args.disk.now c.serve.new.disk old unsent c.requires.ready refl c.requires.ready.packets refl c.in_ok-served-in-Ask.ensures.serving c.serve.ensures.others in
     by_message g.D.Disk w _ _ (c.args.at + 1) p.message (ask request) message_is (record {
-      trace = c.reserve.ensures.items;
-      moments = served_moments g.D.Disk c.args.self.now c.args.disk.now c.serve.new.disk c.args.at request (owed c.args.self.now.registry (kept c.args.self.now.service.state) request) c.requires.ready refl c.serve.ensures.any_moment start w order is_in;
+      told = after_due (c.args.at + 1) (due_of old.registry w.claims request) w;
+      either = inr refl;
+      trace = served_trace g.D.Disk old c.args.disk.now c.serve.new.disk c.args.at request due c.requires.ready refl c.serve.ensures.any_moment start w order is_in unsent c.in_ok-served-in-Ask.ensures.keeps refl trace_is c.reserve-2.ensures.items;
+      notes = served_notes g.D.Disk old c.args.disk.now c.serve.new.disk c.args.at request due c.requires.ready refl c.serve.ensures.any_moment start w order is_in unsent c.in_ok-served-in-Ask.ensures.keeps refl trace_is c.reserve-2.ensures.items;
+      moments = served_moments g.D.Disk old c.args.disk.now c.serve.new.disk c.args.at request due c.requires.ready refl c.serve.ensures.any_moment start w order is_in;
+      stands = λ tells img is. inl (served_stands g.D.Disk old c.args.disk.now c.serve.new.disk c.args.at request due c.requires.ready refl c.serve.ensures.any_moment start w order is_in unsent c.in_ok-served-in-Ask.ensures.keeps refl ready refl tells img is);
     })))
 
--- the cell failed, or there was no room for what it sends
+-- the cell failed, or there was no room for what it hears
 pub returns-in_err-told-in-Answer-clause-breaks : goal.returns-in_err-told-in-Answer-clause-breaks
 returns-in_err-told-in-Answer-clause-breaks g c =
     on_err c.from_residual-in_err-told-in-Answer.result (λ p at_p start w order is_in. (
@@ -315,15 +357,35 @@ returns-in_err-told-in-Answer-clause-breaks g c =
     let of_cell = receiver_is reply k.store.cell in_bounds.0 in_bounds.1 (same_cell old.cells.items c.in-Some.place k found.0 here c.index_mut.ensures.value ∙ found.2 ∙ c.receiver_of.ensures) in
     let message_is : p.message ≡ answer reply = carries old.post c.args.at c.index-sent-at.result c.requires.place (c.index-sent-at.is ∙ ap (λ xs. get_or xs c.args.at c.index-sent-at.result) c.sent.ensures) p at_p (AsAnswer reply) (sym c.message.ensures ∙ c.in-Answer.is) in
     let comes = ap (λ m. after_message old.registry (c.args.at + 1) m w) message_is ∙ reply_comes old w k reply (is_in.cells k inside) of_cell in
+    let moments = heard_moments g.D.Disk old c.args.disk.now c.hear.new.disk reply k c.requires.ready inside of_cell c.hear.ensures.any_moment start w order is_in in
+    let failed = c.in_err-told-in-Answer.was in
     breaks_by g.D.Disk w _ _ (sym comes) (record {
-      trace = c.reserve.ensures.items;
-      moments = heard_moments g.D.Disk old c.args.disk.now c.hear.new.disk reply k c.requires.ready inside of_cell c.hear.ensures.any_moment start w order is_in;
+      told = w;
+      either = inl refl;
+      trace = is_in.trace ∙ sym c.reserve.ensures.items;
+      notes = is_in.notes ∙ sym c.reserve-2.ensures.items;
+      moments = moments;
+      stands = fails_so g.D.Disk old.registry w _ c.args.disk.now c.hear.new.disk g.met.D.Disk.counts_now moments c.in_err-told-in-Answer.field-0.0
+          (λ is tells img at_end. ready_is_of g.D.Disk c.args.disk.now old w c.requires.ready tells is_in img (subst (λ d. IsImage (g.D.Disk.may_leave d) img) (c.hear.ensures.memory (failed ∙ ap Err is)) at_end))
+          (λ file is. (c.hear.ensures.failed file (failed ∙ ap Err is)).1.0)
+          (λ file fault is. c.hear.ensures.whole file fault (failed ∙ ap Err is));
     })))
 
+-- what it sends could not be sent: the step and the note are told
 pub returns-in_err-send_requests-in-Answer-clause-breaks : goal.returns-in_err-send_requests-in-Answer-clause-breaks
 returns-in_err-send_requests-in-Answer-clause-breaks g c =
     on_err c.from_residual-in_err-send_requests-in-Answer.result (λ p at_p start w order is_in. (
     let old : Cluster = c.args.self.now in
+    let unsent : Cluster = record {
+      registry = c.args.self.now.registry;
+      service = c.args.self.now.service;
+      cells = with_item c.args.self.now.cells c.in-Some.place c.hear.new.agent;
+      post = c.args.self.now.post;
+      trace = c.trace-in-Answer.new.trace;
+      notes = c.note.new.notes;
+      takes = c.args.self.now.takes;
+      waited = c.args.self.now.waited;
+    } in
     let reply = c.in-Answer.reply in
     let k : CellAgent = c.index_mut.result.now in
     let found = c.in-Some.ensures.found in
@@ -331,10 +393,23 @@ returns-in_err-send_requests-in-Answer-clause-breaks g c =
     let there = agent_here old.cells.items c.in-Some.place k found.0 here c.index_mut.ensures.value in
     let inside = at_place old.cells.items c.in-Some.place k there in
     let in_bounds = (c.requires.ready.cells k inside).agent.store.cell in
+    let told = c.in_ok-told-in-Answer.ensures in
+    let same = c.hear.ensures.same.store.cell in
     let of_cell = receiver_is reply k.store.cell in_bounds.0 in_bounds.1 (same_cell old.cells.items c.in-Some.place k found.0 here c.index_mut.ensures.value ∙ found.2 ∙ c.receiver_of.ensures) in
     let message_is : p.message ≡ answer reply = carries old.post c.args.at c.index-sent-at.result c.requires.place (c.index-sent-at.is ∙ ap (λ xs. get_or xs c.args.at c.index-sent-at.result) c.sent.ensures) p at_p (AsAnswer reply) (sym c.message.ensures ∙ c.in-Answer.is) in
     let comes = ap (λ m. after_message old.registry (c.args.at + 1) m w) message_is ∙ reply_comes old w k reply (is_in.cells k inside) of_cell in
+    let puts = puts_set old.registry old.cells.items c.in-Some.place k c.hear.new.agent c.requires.ready.agents there same in
+    let trace_is = c.trace-in-Answer.ensures ∙ ap (λ t. traced_by c.in_ok-told-in-Answer.told.step old.takes t) c.reserve.ensures.items ∙ ap (λ st. traced_by st old.takes old.trace.items) told.step in
+    let notes_are = c.note.ensures ∙ ap (λ t. noted_by c.in_ok-told-in-Answer.told.ended t) c.reserve-2.ensures.items ∙ ap (λ en. noted_by en old.notes.items) told.ended in
+    let ready = ready_heard g.D.Disk c.args.disk.now c.hear.new.disk old unsent c.requires.ready refl c.requires.ready.packets
+    k c.hear.new.agent inside same c.hear.ensures.same.threshold refl puts
+    (agents_set old.registry old.cells.items c.in-Some.place k c.hear.new.agent c.requires.ready.agents there same)
+    told.ready c.hear.ensures.others in
     breaks_by g.D.Disk w _ _ (sym comes) (record {
-      trace = c.reserve.ensures.items;
+      told = after_heard k.store.cell (heard_by k reply) w;
+      either = inr refl;
+      trace = heard_trace g.D.Disk old c.args.disk.now c.hear.new.disk reply k c.requires.ready inside of_cell c.hear.ensures.any_moment start w order is_in unsent c.hear.new.agent told.tree told.agent same refl puts trace_is notes_are;
+      notes = heard_notes g.D.Disk old c.args.disk.now c.hear.new.disk reply k c.requires.ready inside of_cell c.hear.ensures.any_moment start w order is_in unsent c.hear.new.agent told.tree told.agent same refl puts trace_is notes_are;
       moments = heard_moments g.D.Disk old c.args.disk.now c.hear.new.disk reply k c.requires.ready inside of_cell c.hear.ensures.any_moment start w order is_in;
+      stands = λ tells img is. inl (heard_stands g.D.Disk old c.args.disk.now c.hear.new.disk reply k c.requires.ready inside of_cell c.hear.ensures.any_moment start w order is_in unsent c.hear.new.agent told.tree told.agent same refl puts ready refl tells img is);
     })))

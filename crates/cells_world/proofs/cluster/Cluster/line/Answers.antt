@@ -59,7 +59,7 @@ returns-in_err-begun-clause-breaks g c =
       [],
       inl refl,
       breaks_nothing g.D.Disk g.N.Wire (moment c.args.self.now c.args.disk.now c.args.wire.now) (moment c.begin.new.self c.args.disk.now c.begin.new.wire) w
-          g.met.D.Disk.only_now c.requires.ready is_in refl (ap (λ t. t.items) c.begin.ensures.same.trace) c.begin.ensures.handed,
+          g.met.D.Disk.only_now c.requires.ready is_in refl (ap (λ t. t.items) c.begin.ensures.same.trace) c.in_err-begun.ensures.unnoted c.begin.ensures.handed,
     ))
 
 -- a hand-over came to an end
@@ -84,5 +84,5 @@ returns-in_err-answer-clause-breaks g c =
     subst (λ m. (es : List Event) × AreEventsOff w m c.args.line.now es × Breaks g.D.Disk g.N.Wire old.registry w before after es) c.moment-now.ensures
     (breaks_late g.D.Disk g.N.Wire before c.begin.new.self c.begin.new.wire c.moment-now.result c.args.line.now g.met.D.Disk.only_now c.requires.ready c.begin.ensures.same.registry
     c.in_ok-begun.ensures.acts c.begin.ensures.handed start w order is_in c.course-course.result c.take_behind.new.course after c.in_ok-take_behind.ensures.hands
-    after c.in_ok-take_behind.ensures.ready (c.take_behind.ensures.registry ∙ c.begin.ensures.same.registry) refl refl refl
+    after c.in_ok-take_behind.ensures.ready (c.take_behind.ensures.registry ∙ c.begin.ensures.same.registry) refl refl refl refl
     c.in_ok-begun.begun c.in_ok-begun.ensures.begun c.take_behind.ensures.takes (λ none. c.take_behind.ensures.quiet (c.puts.ensures ∙ none)))))

@@ -64,4 +64,4 @@ returns-clause-drains g c = λ tells still. inr (let takes = c.loop.invariant.ta
 pub returns-in_err-take_one-clause-breaks : goal.returns-in_err-take_one-clause-breaks
 returns-in_err-take_one-clause-breaks g c =
     on_err c.from_residual.result (breaks_then g.D.Disk g.N.Wire c.args.course.now c.loop.course (moment c.args.self.now c.args.disk.now c.args.wire.now) (moment c.loop.self c.loop.disk c.loop.wire) (moment c.take_one.new.self c.take_one.new.disk c.take_one.new.wire)
-    c.loop.invariant.registry c.requires.ready.configured c.loop.invariant.hands c.in_err-take_one.ensures.breaks)
+    c.loop.invariant.registry c.requires.ready.configured c.loop.invariant.disk_later c.loop.invariant.hands c.in_err-take_one.ensures.breaks)

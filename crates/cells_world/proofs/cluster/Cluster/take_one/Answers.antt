@@ -132,7 +132,7 @@ returns-in-Err-Memory-clause-breaks g c = λ start w order is_in. (
   [],
   tt,
   omega arith,
-  breaks_nothing g.D.Disk g.N.Wire (moment c.args.self.now c.args.disk.now c.args.wire.now) (moment c.args.self.now c.args.disk.now c.take.new.self) w g.met.D.Disk.only_now c.requires.ready is_in refl refl
+  breaks_nothing g.D.Disk g.N.Wire (moment c.args.self.now c.args.disk.now c.args.wire.now) (moment c.args.self.now c.args.disk.now c.take.new.self) w g.met.D.Disk.only_now c.requires.ready is_in refl refl refl
       (λ tells. c.in-Err-Memory.ensures.handed tells),
 )
 
@@ -151,5 +151,5 @@ returns-in_err-hand-in-Some-clause-breaks g c =
     } in
     breaks_sent g.D.Disk g.N.Wire (moment c.args.self.now c.args.disk.now c.args.wire.now) counted c.in-Ok-Some.packet
     (record { registry = refl; armed = refl; service = refl; cells = refl; sent = refl; trace = refl; notes = refl; takes = refl })
-    c.in-Some.at (moment c.hand.new.self c.hand.new.disk c.hand.new.wire) c.take.new.self g.met.D.Disk.counts_now c.in-Some.ensures.found c.in_err-hand-in-Some.ensures.breaks c.hand.ensures.same.takes
+    c.in-Some.at (moment c.hand.new.self c.hand.new.disk c.hand.new.wire) c.take.new.self c.in-Some.ensures.found c.in_err-hand-in-Some.ensures.breaks c.hand.ensures.same.takes
     (λ tells. c.hand.ensures.handed tells ∙ subst (λ o. IsTaken (Ok o) (g.N.Wire.handed c.args.wire.now) (g.N.Wire.handed c.take.new.self)) c.in-Ok-Some.field-0-is (c.in-Ok-Some.ensures.handed tells)))

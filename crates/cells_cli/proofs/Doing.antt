@@ -90,7 +90,7 @@ module _ {D N : Type 0} (d : DiskGhosts D) (n : WireGhosts N) (shown : Option �
     here = b;
     ready = ready;
     went = went;
-    later = omega arith;
+    later = (omega arith, omega arith);
     behind = inl refl;
     between = λ _. refl;
     breaks = λ broken is. absurd cc;
@@ -98,7 +98,7 @@ module _ {D N : Type 0} (d : DiskGhosts D) (n : WireGhosts N) (shown : Option �
   }
 
   -- nothing was told, and this came behind
-  pub ends_untold : (a c : At D N) (status : Status) → OnlyNow d → IsReady d a.disk a.cluster → n.faults a.wire ≤ n.faults c.wire → ComesBehind d n shown a c → (IsBetween status → ⊥) → ((file : ℕ) → status ≢ DiskFault file) → EndsBy d n shown nothing_told a c status
+  pub ends_untold : (a c : At D N) (status : Status) → OnlyNow d → IsReady d a.disk a.cluster → (d.faults a.disk ≤ d.faults c.disk) × (n.faults a.wire ≤ n.faults c.wire) → ComesBehind d n shown a c → (IsBetween status → ⊥) → ((file : ℕ) → status ≢ DiskFault file) → EndsBy d n shown nothing_told a c status
   ends_untold a c status only_now ready later behind within apart = record {
     here = a;
     ready = ready;
@@ -121,7 +121,7 @@ module _ {D N : Type 0} (d : DiskGhosts D) (n : WireGhosts N) (shown : Option �
     behind = inr (inr (broken, breaks));
     between = λ h. absurd (within h);
     breaks = λ other is. subst (λ b. BreaksIn d n shown a b c) (same_broken broken other is) breaks;
-    fails = fails;
+    fails = λ file is. (broken, refl, fails file is);
   }
 
   -- lines, and then others that ended so
@@ -140,7 +140,7 @@ module _ {D N : Type 0} (d : DiskGhosts D) (n : WireGhosts N) (shown : Option �
 module _ {W D N : Type 0} (w : SinkGhosts W) (d : DiskGhosts D) (n : WireGhosts N) (shown : Option ℕ) where
   module _ (tells : Bool) (wanted : List Numbered) (refused : Option ℕ) (a c : At D N) (out out_now : W) where
     -- want of memory: nothing was told
-    pub nothing_done : OnlyNow d → IsReady d a.disk a.cluster → n.faults a.wire ≤ n.faults c.wire → ComesBehind d n shown a c → WritesAll w out out_now [] → Does w d n shown tells wanted refused a c out out_now Memory
+    pub nothing_done : OnlyNow d → IsReady d a.disk a.cluster → (d.faults a.disk ≤ d.faults c.disk) × (n.faults a.wire ≤ n.faults c.wire) → ComesBehind d n shown a c → WritesAll w out out_now [] → Does w d n shown tells wanted refused a c out out_now Memory
     nothing_done only_now ready later behind told = record {
       told = nothing_told;
       end = ends_untold d n shown a c Memory only_now ready later behind (λ h. h) (λ file is. cc);
@@ -171,7 +171,7 @@ module _ {W D N : Type 0} (w : SinkGhosts W) (d : DiskGhosts D) (n : WireGhosts 
       written = λ t. told t ∙ ap (λ (b : List ℕ). w.written out ++ b) (whole_text item);
     }
     answered item went ready_now (Err MemoryStop) told =
-        nothing_done true (record { number = item.number; line = item.line } ∷ []) None a c out out_now only_now ready went.later.1 (inr (inl (item, went, ready_now))) told
+        nothing_done true (record { number = item.number; line = item.line } ∷ []) None a c out out_now only_now ready went.later (inr (inl (item, went, ready_now))) told
     answered item went ready_now (Err WriteStop) told = record {
       told = record { items = item ∷ []; broken = None };
       end = ends_there d n shown (item ∷ []) a c WriteFault ready_now went (λ file is. cc);
@@ -224,7 +224,7 @@ module _ {W D N : Type 0} (w : SinkGhosts W) (d : DiskGhosts D) (n : WireGhosts 
     })
 
     pub no_memory : DoesText w d n shown number text a a out out (Err MemoryStop)
-    no_memory = nothing_done true (done_with number (reading_of text) []) (refused_with number (reading_of text) None) a a out out only_now ready (omega arith) (inl refl) (λ t. sym (append-nil (w.written out)))
+    no_memory = nothing_done true (done_with number (reading_of text) []) (refused_with number (reading_of text) None) a a out out only_now ready (omega arith, omega arith) (inl refl) (λ t. sym (append-nil (w.written out)))
 
     pub wanted_line : (line : Rattle.cells_script.specs.declared.line.Line.Line) → Wanted line ≡ reading_of text → (c : At D N) (out_now : W) (result : Result (Unit {0}) UpStop) → DoesLine w d n shown number line a c out out_now result → DoesText w d n shown number text a c out out_now result
     wanted_line line is c out_now result does = subst (λ r. DoesSo r c out_now (ended result)) is does

@@ -1,5 +1,6 @@
 -- What a run of a script comes to, from what its opening and its lines came to.
 use Rattle.std.proofs.Common.{◌≡◌, ◌⊎◌, inl, inr, ℕ, ◌≤◌, IsTrue, List, [], ◌∷◌, ◌++◌, length, drop, Option, Some, Result, Ok, Err, refl, sym, ◌∙◌, ap, subst, arith}
+use Rattle.std.specs.Prelude.{IsSome}
 use Rattle.std.specs.FinMap as map
 use Rattle.std.proofs.lemmas.List.{append-nil}
 use Rattle.std.proofs.Math.Seq.{drop-append_seam}
@@ -11,7 +12,7 @@ use Rattle.disk_journal.specs.declared.disk.Disk.{Ghosts as DiskGhosts}
 use Rattle.claim_types.specs.declared.step.Transition.{Transition}
 use Rattle.claim_map.specs.Bounds.{AreCells}
 use Rattle.claim_map.specs.Legal.{IsRun, replay}
-use Rattle.claim_map.specs.Registry.{Registry}
+use Rattle.claim_map.specs.Registry.{Registry, cell_of}
 use Rattle.claim_map.specs.State.{ClaimMap}
 use Rattle.claim_map.proofs.Configured.{wide_of}
 use Rattle.claim_laws.specs.Events.{run}
@@ -31,7 +32,7 @@ use Rattle.cells_world.specs.declared.fault.ClusterError.TheVariants.{DiskFailed
 use Rattle.cells_world.specs.declared.fault.Damage.TheVariants.{NotAJournal as NoJournal, BadEntry as RefusedEntry, ConfigLacks as LacksCell, EpochsSpent as SpentEpochs}
 use Rattle.cells_world.proofs.Served.{ready_is_of}
 use Rattle.cells_world.proofs.Further.{run_grows}
-use Rattle.cells_cli.specs.Doing.{AreFirst, AreTold, BreaksIn, Does, EndsBy, EndsSo, HasItsCause, IsWritten, status_of_cluster}
+use Rattle.cells_cli.specs.Doing.{AreFirst, AreTold, BreaksIn, Does, EndsBy, EndsSo, HasItsCause, IsWritten, ended, status_of_cluster}
 use Rattle.cells_cli.specs.ScriptLines.{script_lines_of}
 use Rattle.cells_cli.specs.Script.{line_refused, lines_done}
 use Rattle.cells_cli.specs.Told.{Broken, Item, Telling, steps_told}
@@ -43,10 +44,34 @@ use Rattle.cells_cli.specs.declared.up.UpStop.{UpStop}
 use Rattle.cells_cli.specs.declared.up.UpStop.TheVariants.{Script as ScriptStop, ReadFault as ReadStop, WriteFault as WriteStop, Memory as MemoryStop, Cluster as ClusterStop}
 use Rattle.cells_cli.proofs.Causes.{rose_earlier}
 
-pub where_opened : (status : Status) (told : Telling) (T : Type 0) → T → WhereOpened status told T
-where_opened End told T t = t
-where_opened (Script line) told T t = t
-where_opened other told T t = inr t
+-- the statuses that tell of damage
+abbrev TellsDamage : Status → Type 0
+TellsDamage (NotAJournal file at) = Unit {0}
+TellsDamage (BadEntry file index) = Unit {0}
+TellsDamage (ConfigLacks cell) = Unit {0}
+TellsDamage (EpochsSpent cell) = Unit {0}
+TellsDamage other = ⊥
+
+pub where_opened : (status : Status) (told : Telling) (T : Type 0) → (TellsDamage status → ⊥) → T → WhereOpened status told T
+where_opened End told T whole t = t
+where_opened (Script line) told T whole t = t
+where_opened (NotAJournal file at) told T whole t = absurd (whole tt)
+where_opened (BadEntry file index) told T whole t = absurd (whole tt)
+where_opened (ConfigLacks cell) told T whole t = absurd (whole tt)
+where_opened (EpochsSpent cell) told T whole t = absurd (whole tt)
+where_opened other told T whole t = inr t
+
+-- no line ends with one
+pub undamaged : {S W D : Type 0} (s : SourceGhosts S) (w : SinkGhosts W) (d : DiskGhosts D) (opened now : D) (script script_now : S) (out out_now : W) (r : Result (Unit {0}) UpStop) →
+    HasItsCause s w (EndsSo d opened now) script script_now out out_now r → TellsDamage (ended r) → ⊥
+undamaged s w d opened now script script_now out out_now (Ok done) cause damage = damage
+undamaged s w d opened now script script_now out out_now (Err (ScriptStop line)) cause damage = damage
+undamaged s w d opened now script script_now out out_now (Err ReadStop) cause damage = damage
+undamaged s w d opened now script script_now out out_now (Err WriteStop) cause damage = damage
+undamaged s w d opened now script script_now out out_now (Err MemoryStop) cause damage = damage
+undamaged s w d opened now script script_now out out_now (Err (ClusterStop (DiskFailed file))) cause damage = damage
+undamaged s w d opened now script script_now out out_now (Err (ClusterStop NoRoom)) cause damage = damage
+undamaged s w d opened now script script_now out out_now (Err (ClusterStop (Damaged file fault))) cause damage = cause
 
 abbrev beside_of : {N : Type 0} → N → List ℕ → ℕ → Beside N
 beside_of wire armed waited = record { wire = wire; armed = armed; waited = waited }
@@ -88,11 +113,13 @@ breaks_behind d n shown registry here new same cells start w order is_in before 
     }
 
 -- what lines brought about that were done, from a world that the cluster was in before
-module _ {D N : Type 0} (d : DiskGhosts D) (n : WireGhosts N) (shown : Option ℕ) (registry : Registry) (w : World) (items : List Item) (a b : At D N) (tells : IsTrue d.tells) (ready : IsReady d b.disk b.cluster) (same : b.cluster.registry ≡ registry) where
+module _ {D N : Type 0} (d : DiskGhosts D) (n : WireGhosts N) (shown : Option ℕ) (registry : Registry) (w : World) (items : List Item) (a b : At D N) (tells : IsTrue d.tells) (ready : IsReady d b.disk b.cluster) (same : b.cluster.registry ≡ registry)
+    (later : (d.faults a.disk ≤ d.faults b.disk) × (n.faults a.wire ≤ n.faults b.wire)) where
   abbrev pub done_of : Brings d n shown registry w items a b → Done d n shown registry w items a.disk b.disk (beside a) (beside b)
   done_of b_is = record {
     events = b_is.events;
     of_items = b_is.of_items;
+    later = later;
     handed = λ t. b_is.goes.handed t;
     moments = b_is.goes.moments;
     stands = λ img is. subst (λ r. IsOf r img (run registry b_is.events w)) same (ready_is_of d b.disk b.cluster (run registry b_is.events w) ready tells b_is.goes.now img is);
@@ -100,9 +127,9 @@ module _ {D N : Type 0} (d : DiskGhosts D) (n : WireGhosts N) (shown : Option �
 
 module _ {S W D N : Type 0} (s : SourceGhosts S) (w : SinkGhosts W) (d : DiskGhosts D) (n : WireGhosts N) (shown : Option ℕ) (registry : Registry) (script : S) (disk : D) (wire : N) where
   -- nothing was opened
-  module _ (out : W) (disk_now : D) (wire_now : N) where
+  module _ (out : W) (disk_now : D) (wire_now : N) (later : d.faults disk ≤ d.faults disk_now) where
     none_brought : (status : Status) → ((T : Type 0) → WhereOpened status nothing_told T) → BringsAbout d n shown registry nothing_told disk disk_now wire wire_now status
-    none_brought status where_none = record { disk_open = disk_now; opened_first = omega arith; fails = λ file is. inl refl; traces = λ a b e f g h j. where_none _ }
+    none_brought status where_none = record { disk_open = disk_now; opened_first = (later, omega arith); fails = λ file is. inl refl; traces = λ a b e f g h j. where_none _ }
 
     none_told : (status : Status) → AreTold (lines_done 0 (script_lines_of (s.left script))) (line_refused 0 (script_lines_of (s.left script))) nothing_told status → IsWritten w nothing_told out out status → ((T : Type 0) → WhereOpened status nothing_told T) →
         Ups s w d n shown registry script out out disk disk_now wire wire_now status
@@ -123,17 +150,20 @@ module _ {S W D N : Type 0} (s : SourceGhosts S) (w : SinkGhosts W) (d : DiskGho
     pub not_opened : (error : ClusterError) → Ups s w d n shown registry script out out disk disk_now wire wire_now (status_of_cluster error)
     not_opened (DiskFailed file) = none_told (DiskFault file) all_ahead none_written (λ T. inl refl)
     not_opened NoRoom = no_room
-    not_opened (Damaged file (NoJournal at)) = none_told (NotAJournal file at) all_ahead none_written (λ T. inl refl)
-    not_opened (Damaged file (RefusedEntry index)) = none_told (BadEntry file index) all_ahead none_written (λ T. inl refl)
-    not_opened (Damaged file (LacksCell cell)) = none_told (ConfigLacks cell) all_ahead none_written (λ T. inl refl)
-    not_opened (Damaged file SpentEpochs) = none_told (EpochsSpent file) all_ahead none_written (λ T. inl refl)
+    not_opened (Damaged file (NoJournal at)) = none_told (NotAJournal file at) all_ahead none_written (λ T. refl)
+    not_opened (Damaged file (RefusedEntry index)) = none_told (BadEntry file index) all_ahead none_written (λ T. refl)
+    not_opened (Damaged file (LacksCell cell)) = none_told (ConfigLacks cell) all_ahead none_written (λ T. refl)
+    not_opened (Damaged file SpentEpochs) = none_told (EpochsSpent file) all_ahead none_written (λ T. refl)
 
   -- the cluster was opened, and the lines were done
   module _ (cluster : Cluster) (opened : D) (new : At D N) (out out_now : W) (status : Status)
-      (same : cluster.registry ≡ registry) (fresh : IsNew cluster) (cells : AreCells cluster.registry)
+      (same : cluster.registry ≡ registry) (fresh : IsNew cluster) (ready_then : IsReady d opened cluster)
       (opens : IsTrue d.tells → StandsStill d disk opened → Opens registry (d.seen disk) cluster)
-      (later : d.faults opened ≤ d.faults new.disk)
+      (first : d.faults disk ≤ d.faults opened) (later : d.faults opened ≤ d.faults new.disk) (whole : TellsDamage status → ⊥)
       (does : Does w d n shown s.tells (lines_done 0 (script_lines_of (s.left script))) (line_refused 0 (script_lines_of (s.left script))) (moment cluster opened wire) new out out_now status) where
+    cells : AreCells cluster.registry
+    cells = ready_then.configured
+
     abbrev end : EndsBy d n shown does.told (moment cluster opened wire) new status
     end = does.end
 
@@ -150,7 +180,7 @@ module _ {S W D N : Type 0} (s : SourceGhosts S) (w : SinkGhosts W) (d : DiskGho
         item = item;
         there = beside new;
         wire = refl;
-        done = done_of d n shown registry v (item ∷ []) end.here new tells ready (went.registry ∙ same_here)
+        done = done_of d n shown registry v (item ∷ []) end.here new tells ready (went.registry ∙ same_here) went.later
             (subst (λ r. Brings d n shown r v (item ∷ []) end.here new) same_here (went.brings start v (subst (λ r. IsInOrder r start v) (sym same_here) order) is_in));
       }
 
@@ -175,19 +205,24 @@ module _ {S W D N : Type 0} (s : SourceGhosts S) (w : SinkGhosts W) (d : DiskGho
         let after = run registry b.events v in
         let order_after = run-in_order registry v.claims (wide_of registry legal_cells) b.events v order_v in
         let trace : after.trace ≡ steps_told does.told.items = b.goes.now.trace ∙ end.went.trace ∙ ap (λ (ts : List Transition). ts ++ steps_told does.told.items) fresh.trace in
-        let done = done_of d n shown registry v does.told.items (moment cluster opened wire) end.here tells end.ready (end.went.registry ∙ same) b in
+        let done = done_of d n shown registry v does.told.items (moment cluster opened wire) end.here tells end.ready (end.went.registry ∙ same) end.went.later b in
         let beside_is : beside (moment cluster opened wire) ≡ at_opening wire = ap (λ armed. beside_of wire armed cluster.waited) fresh.armed ∙ ap (beside_of wire []) fresh.waited in
         record {
           opened = v;
           again = o.1;
+          agents = λ cell known. (
+              let found = ready_then.agents.there cell (subst (λ r. IsSome (cell_of r cell)) (sym same) known) in
+              subst (λ q. IsSome (map.get v.agents q)) found.2 (subst IsSome (sym (o.2.cells found.0 found.1).agent) refl));
           fresh = λ cell a is. (
               let found = o.2.only cell a is in
               let own : a ≡ kept_by found.0 = same_agent a (kept_by found.0) (sym is ∙ ap (map.get v.agents) (sym found.2) ∙ (o.2.cells found.0 found.1).agent) in
-              ap (λ (x : Agent). x.drawn) own ∙ fresh.drawn found.0 found.1);
+              let known = subst (λ r. IsSome (cell_of r found.0.store.cell)) same (ready_then.agents.known found.0 found.1) in
+              (subst (λ q. IsSome (cell_of registry q)) found.2 known, ap (λ (x : Agent). x.drawn) own ∙ fresh.drawn found.0 found.1));
           disk_then = end.here.disk;
           there = beside end.here;
           done = record {
             events = b.events;
+            later = done.later;
             of_items = subst (λ here. AreOfItems n shown registry v here does.told.items b.events (beside end.here)) beside_is b.of_items;
             handed = done.handed;
             moments = done.moments;
@@ -212,9 +247,9 @@ module _ {S W D N : Type 0} (s : SourceGhosts S) (w : SinkGhosts W) (d : DiskGho
       written = does.written;
       brings = record {
         disk_open = opened;
-        opened_first = later;
-        fails = λ file is. inr (rose_earlier (d.faults opened) (d.faults end.here.disk) (d.faults new.disk) end.went.later.0 (end.fails file is).0);
-        traces = λ tells still start world order configured is_of. where_opened status does.told _ (traces_of tells still start world order configured is_of);
+        opened_first = (first, later);
+        fails = λ file is. (let failed = end.fails file is in inr (failed.0, failed.1, rose_earlier (d.faults opened) (d.faults end.here.disk) (d.faults new.disk) end.went.later.0 failed.2.0));
+        traces = λ tells still start world order configured is_of. where_opened status does.told _ whole (traces_of tells still start world order configured is_of);
       };
     }
 

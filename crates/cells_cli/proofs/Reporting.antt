@@ -22,7 +22,7 @@ use Rattle.cells_cli.specs.Status.{last_line}
 use Rattle.cells_cli.specs.Told.{Telling, telling_text}
 use Rattle.cells_cli.specs.Ups.{BringsAbout, EndsUp, EndsUpAt, IsDamaged, IsReportOf, IsUpped, OpensSo, RunsUp, Traces, Ups, WhereOpened, nothing_told}
 use Rattle.cells_cli.specs.declared.status.Status.{Status}
-use Rattle.cells_cli.specs.declared.status.Status.TheVariants.{End, Script, ReadFault, WriteFault, Memory}
+use Rattle.cells_cli.specs.declared.status.Status.TheVariants.{End, Script, ReadFault, WriteFault, Memory, NotAJournal, BadEntry, ConfigLacks, EpochsSpent}
 use Rattle.cells_cli.specs.declared.up.UpStop.{UpStop}
 use Rattle.cells_cli.specs.declared.up.UpStop.TheVariants.{Script as ScriptStop, ReadFault as ReadStop, WriteFault as WriteStop, Memory as MemoryStop, Cluster as ClusterStop}
 use Rattle.cells_cli.proofs.Doing.{all_written, cluster_apart, to_first}
@@ -39,6 +39,7 @@ module _ {D N : Type 0} (d : DiskGhosts D) (n : WireGhosts N) (shown : Option �
   less_between world disk_open status other within t = record {
     opened = t.opened;
     again = t.again;
+    agents = t.agents;
     fresh = t.fresh;
     disk_then = t.disk_then;
     there = t.there;
@@ -55,6 +56,10 @@ module _ {D N : Type 0} (d : DiskGhosts D) (n : WireGhosts N) (shown : Option �
   where_less : (status : Status) (T U : Type 0) → (T → U) → WhereOpened status told T → (told ≡ nothing_told) ⊎ U
   where_less End T U f h = inr (f h)
   where_less (Script line) T U f h = inr (f h)
+  where_less (NotAJournal file at) T U f h = inl h
+  where_less (BadEntry file index) T U f h = inl h
+  where_less (ConfigLacks cell) T U f h = inl h
+  where_less (EpochsSpent cell) T U f h = inl h
   where_less other T U f h = elim h [ inl none ↦ inl none | inr t ↦ inr (f t) ]
 
   module _ (own : Status) (brings : BringsAbout d n shown registry told disk disk_now wire wire_now own) where
@@ -250,9 +255,9 @@ module _ {S W D N : Type 0} (s : SourceGhosts S) (w : SinkGhosts W) (d : DiskGho
   pub config_fails : (fault : ConfigFault) (job : Result Job Status) → Configures (Err fault) job → job ≡ Ok (does_lines registry) → (result : Status) → EndsWith (status_of_config fault) result
       → (result ≢ WriteFault → WritesAll w out now (last_line result)) → (result ≡ WriteFault → WritesFrontOf w out now (status_of_config fault)) → RunsUp s w d n shown registry script script out now disk disk wire wire result
   config_fails Read job told is result ends all part =
-      finished s w d n shown registry script script out out now disk disk wire wire ReadFault (λ h. cc) (unread s w d n shown registry script disk wire out disk wire) (λ t. tt) tt result ends all part
+      finished s w d n shown registry script script out out now disk disk wire wire ReadFault (λ h. cc) (unread s w d n shown registry script disk wire out disk wire (omega arith)) (λ t. tt) tt result ends all part
   config_fails NoSpace job told is result ends all part =
-      finished s w d n shown registry script script out out now disk disk wire wire Memory (λ h. cc) (no_room s w d n shown registry script disk wire out disk wire) (λ t. tt) tt result ends all part
+      finished s w d n shown registry script script out out now disk disk wire wire Memory (λ h. cc) (no_room s w d n shown registry script disk wire out disk wire (omega arith)) (λ t. tt) tt result ends all part
   config_fails Long job told is result ends all part = absurd cc
   config_fails (Refused number) job told is result ends all part = absurd cc
   config_fails NoSuchCell job told is result ends all part = absurd cc

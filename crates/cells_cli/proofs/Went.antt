@@ -1,6 +1,7 @@
 -- What lines brought about joins.
-use Rattle.std.proofs.Common.{◌≡◌, ℕ, ◌≤◌, Bool, true, false, cond, IsTrue, List, [], ◌∷◌, ◌++◌, Option, Some, None, refl, sym, ◌∙◌, ap, subst, append_assoc, arith}
+use Rattle.std.proofs.Common.{◌≡◌, ℕ, ◌≤◌, Bool, true, false, cond, IsTrue, List, [], ◌∷◌, ◌++◌, length, drop, Option, Some, None, refl, sym, ◌∙◌, ap, subst, append_assoc, arith}
 use Rattle.std.proofs.lemmas.List.{append-nil}
+use Rattle.std.proofs.Math.Seq.{drop-append_seam}
 use Rattle.disk_journal.specs.declared.disk.Disk.{Ghosts}
 use Rattle.disk_journal.proofs.Moments.{OnlyNow, started}
 use Rattle.cells_edge.specs.declared.wire.Wire.{Ghosts as WireGhosts}
@@ -19,6 +20,10 @@ use Rattle.cells_world.specs.Cluster.{IsReady}
 use Rattle.cells_world.specs.Ending.{GoesOn}
 use Rattle.cells_world.specs.Follows.{Follows}
 use Rattle.cells_world.specs.Lines.{waited_by}
+use Rattle.cells_world.specs.OnWay.{sent_between}
+use Rattle.cells_world.specs.Packets.{after_puts, let_through, spelled_from}
+use Rattle.cells_world.specs.Post.{IsGiven, packets_of}
+use Rattle.cells_world.specs.Puts.{PutsFor, armed_by, puts_again}
 use Rattle.cells_world.specs.World.{At, IsReached}
 use Rattle.cells_world.proofs.Going.{goes_on, run_append}
 use Rattle.cells_world.proofs.Served.{ready_is_of}
@@ -95,14 +100,20 @@ module _ {D N : Type 0} (g : Ghosts D) (n : WireGhosts N) (shown : Option ℕ) w
 
   -- a line that was answered
   pub went_line : (a c : At D N) (number now : ℕ) (line : Line) (answer : Answer) (grows : GoesOn a.cluster c.cluster) → c.cluster.registry ≡ a.cluster.registry → c.cluster.waited ≡ waited_by line a.cluster.waited → IsShown shown now →
-      (g.faults a.disk ≤ g.faults c.disk) × (n.faults a.wire ≤ n.faults c.wire) → Follows g n now line answer a c → Went g n shown a (record { number = number; line = line; notes = grows.notes; steps = grows.steps; answer = answer } ∷ []) c
-  went_line a c number now line answer grows same waited read later follows = record {
+      (g.faults a.disk ≤ g.faults c.disk) × (n.faults a.wire ≤ n.faults c.wire) → PutsFor (IsGiven n) line a.wire c.wire a.cluster.post c.cluster.post → Follows g n now line answer a c → Went g n shown a (record { number = number; line = line; notes = grows.notes; steps = grows.steps; answer = answer } ∷ []) c
+  went_line a c number now line answer grows same waited read later puts follows = record {
     registry = same;
     later = later;
     trace = grows.trace ∙ ap (λ (t : List Transition). a.cluster.trace.items ++ t) (sym (append-nil grows.steps));
     notes = grows.noted ∙ ap (λ (t : List Note). a.cluster.notes.items ++ t) (sym (append-nil grows.notes));
     brings = λ start w order is_in. (
         let it = follows start w order is_in in
+        let before = packets_of a.cluster.post in
+        let behind = run a.cluster.registry it.0 w in
+        let put : (puts_again line before ++ spelled_from (length before) puts.packets) ≡ (puts_again line w.sent ++ sent_between w behind) =
+        ap (λ xs. puts_again line before ++ spelled_from (length before) xs) (sym (drop-append_seam before puts.packets) ∙ ap (drop (length before)) (sym puts.sent ∙ sym it.2.now.sent))
+        ∙ ap (λ ps. puts_again line ps ++ spelled_from (length ps) (drop (length ps) behind.sent)) (sym is_in.sent) in
+        let armed = armed_by line a.cluster.post.armed.items in
         record {
           events = it.0;
           of_items = (
@@ -117,6 +128,8 @@ module _ {D N : Type 0} (g : Ghosts D) (n : WireGhosts N) (shown : Option ℕ) w
               steps = it.2.now.trace ∙ grows.trace ∙ ap (λ (t : List Transition). t ++ grows.steps) (sym is_in.trace);
               notes = it.2.now.notes ∙ grows.noted ∙ ap (λ (t : List Note). t ++ grows.notes) (sym is_in.notes);
               waited = waited;
+              sent = λ tells. puts.put.put tells ∙ ap (λ xs. n.sent a.wire ++ let_through armed xs) put;
+              armed = puts.put.left ∙ ap (λ xs. after_puts xs armed) put;
               later = later.1;
               took = it.3;
             },

@@ -87,12 +87,12 @@ abbrev pub IsWritten : {W : Type 0} → SinkGhosts W → Telling → W → W →
 IsWritten w told out out_now WriteFault = WritesFront w out out_now (telling_text told)
 IsWritten w told out out_now other = WritesAll w out out_now (telling_text told)
 
--- What the line leaves at which a cluster came to an end, at the moment that the clock showed: what its error leaves, and the steps and notes told of it are those
+-- What the line leaves at which a cluster came to an end, at the moment read of the clock: what its error leaves, and the steps and notes told of it are those
 -- that came behind the ones before.
 pub record BreaksIn {D N : Type 0} (d : DiskGhosts D) (n : WireGhosts N) (shown : Option ℕ) (old : At D N) (broken : Broken) (new : At D N) : Type 0 where
   pub clock : ℕ
   pub read : IsShown shown clock
-  pub later : n.faults old.wire ≤ n.faults new.wire
+  pub later : (d.faults old.disk ≤ d.faults new.disk) × (n.faults old.wire ≤ n.faults new.wire)
   pub line : BreaksLine d n clock broken.line old new
   pub steps : broken.steps ≡ drop (length old.cluster.trace.items) new.cluster.trace.items
   pub notes : broken.notes ≡ drop (length old.cluster.notes.items) new.cluster.notes.items
@@ -108,11 +108,12 @@ pub record EndsBy {D N : Type 0} (d : DiskGhosts D) (n : WireGhosts N) (shown : 
   pub here : At D N
   pub ready : IsReady d here.disk here.cluster
   pub went : Went d n shown old told.items here
-  pub later : n.faults here.wire ≤ n.faults new.wire
+  pub later : (d.faults here.disk ≤ d.faults new.disk) × (n.faults here.wire ≤ n.faults new.wire)
   pub behind : ComesBehind d n shown here new
   pub between : IsBetween status → here ≡ new
   pub breaks : (broken : Broken) → told.broken ≡ Some broken → BreaksIn d n shown here broken new
-  pub fails : (file : ℕ) → status ≡ DiskFault file → FailedAt d file here.disk new.disk
+  -- a fault of the disk ended the run in a line, of which is told what was done
+  pub fails : (file : ℕ) → status ≡ DiskFault file → (broken : Broken) × (told.broken ≡ Some broken) × FailedAt d file here.disk new.disk
 
 -- What doing lines came to: what is told of them and written, and how they ended.
 pub record Does {W D N : Type 0} (w : SinkGhosts W) (d : DiskGhosts D) (n : WireGhosts N) (shown : Option ℕ) (tells : Bool) (wanted : List Numbered) (refused : Option ℕ) (old new : At D N) (out out_now : W) (status : Status) : Type 0 where

@@ -1,5 +1,5 @@
 -- What a run of a script over the service and its cells comes to.
-use Rattle.std.specs.Prelude.{◌≡◌, ◌≢◌, ◌⊎◌, ℕ, ◌≤◌, Bool, IsTrue, List, [], ◌∷◌, ◌++◌, length, Option, None, Some, Err}
+use Rattle.std.specs.Prelude.{◌≡◌, ◌≢◌, ◌⊎◌, ℕ, ◌≤◌, Bool, IsSome, IsTrue, List, [], ◌∷◌, ◌++◌, length, Option, None, Some, Err}
 use Rattle.std.specs.FinMap as map
 use Rattle.cells_base.specs.Causes.{Rose}
 use Rattle.cells_edge.specs.Edge.{IsPrefix}
@@ -12,7 +12,7 @@ use Rattle.disk_journal.specs.Disk.{Image, IsImage}
 use Rattle.disk_journal.specs.Moments.{LeavesOnly}
 use Rattle.disk_journal.specs.declared.disk.Disk.{Ghosts as DiskGhosts}
 use Rattle.claim_map.specs.Legal.{IsRun, replay}
-use Rattle.claim_map.specs.Registry.{Registry}
+use Rattle.claim_map.specs.Registry.{Registry, cell_of}
 use Rattle.claim_map.specs.State.{ClaimMap}
 use Rattle.claim_laws.specs.Events.{Event, run}
 use Rattle.claim_laws.specs.Facts.{IsInOrder}
@@ -50,6 +50,7 @@ HandsThese n registry w events wire wire_now = IsTrue n.tells → (given : List 
 pub record Done {D N : Type 0} (d : DiskGhosts D) (n : WireGhosts N) (shown : Option ℕ) (registry : Registry) (w : World) (items : List Item) (disk disk_then : D) (here there : Beside N) : Type 0 where
   pub events : List Event
   pub of_items : AreOfItems n shown registry w here items events there
+  pub later : (d.faults disk ≤ d.faults disk_then) × (n.faults here.wire ≤ n.faults there.wire)
   pub handed : HandsThese n registry w events here.wire there.wire
   pub moments : LeavesOnly d disk disk_then (IsReached registry w events)
   pub stands : (img : Image) → IsImage (d.may_leave disk_then) img → IsOf registry img (run registry events w)
@@ -98,7 +99,9 @@ at_opening wire = record { wire = wire; armed = []; waited = 0 }
 pub record Traces {D N : Type 0} (d : DiskGhosts D) (n : WireGhosts N) (shown : Option ℕ) (registry : Registry) (w : World) (told : Telling) (disk_open disk_now : D) (wire wire_now : N) (status : Status) : Type 0 where
   pub opened : World
   pub again : IsReopened w opened
-  pub fresh : (cell : ℕ) (a : Agent) → map.get opened.agents cell ≡ Some a → a.drawn ≡ 0
+  -- each cell of the configuration has an agent, and no other has one
+  pub agents : (cell : ℕ) → IsSome (cell_of registry cell) → IsSome (map.get opened.agents cell)
+  pub fresh : (cell : ℕ) (a : Agent) → map.get opened.agents cell ≡ Some a → IsSome (cell_of registry cell) × (a.drawn ≡ 0)
   -- the disk, and what stands beside the nodes, as the last line left them that was answered and told
   pub disk_then : D
   pub there : Beside N
@@ -106,7 +109,7 @@ pub record Traces {D N : Type 0} (d : DiskGhosts D) (n : WireGhosts N) (shown : 
   pub trace : (run registry done.events opened).trace ≡ steps_told told.items
   pub legal : IsRun registry w.claims [] 0 (run registry done.events opened).handed (steps_told told.items)
   pub replayed : replay w.claims (steps_told told.items) ≡ (run registry done.events opened).claims
-  pub later : n.faults there.wire ≤ n.faults wire_now
+  pub later : (d.faults disk_then ≤ d.faults disk_now) × (n.faults there.wire ≤ n.faults wire_now)
   pub behind : EndsThere disk_then disk_now there.wire wire_now
       ⊎ OneMore d n shown registry (run registry done.events opened) disk_then disk_now there wire_now
       ⊎ ((broken : Broken) × BreaksBehind d n shown registry w.claims (run registry done.events opened) (steps_told told.items) broken disk_then disk_now there wire_now)
@@ -114,10 +117,15 @@ pub record Traces {D N : Type 0} (d : DiskGhosts D) (n : WireGhosts N) (shown : 
   pub breaks : (broken : Broken) → told.broken ≡ Some broken →
       BreaksBehind d n shown registry w.claims (run registry done.events opened) (steps_told told.items) broken disk_then disk_now there wire_now
 
--- so it is of a run that got so far that its nodes were opened: of one that came to the end of the script or to a line that is refused, or told anything
+-- So it is of a run that got so far that its nodes were opened: of one that came to the end of the script or to a line that is refused, or told anything. Where a
+-- file shows damage nothing is told.
 abbrev pub WhereOpened : Status → Telling → Type 0 → Type 0
 WhereOpened End told T = T
 WhereOpened (Script line) told T = T
+WhereOpened (NotAJournal file at) told T = told ≡ nothing_told
+WhereOpened (BadEntry file index) told T = told ≡ nothing_told
+WhereOpened (ConfigLacks cell) told T = told ≡ nothing_told
+WhereOpened (EpochsSpent cell) told T = told ≡ nothing_told
 WhereOpened other told T = (told ≡ nothing_told) ⊎ T
 
 -- What a run brings about of which this is told: where the disk tells its content, and its count of faults stood still until the files were opened, the
@@ -125,9 +133,9 @@ WhereOpened other told T = (told ≡ nothing_told) ⊎ T
 pub record BringsAbout {D N : Type 0} (d : DiskGhosts D) (n : WireGhosts N) (shown : Option ℕ) (registry : Registry) (told : Telling) (disk disk_now : D) (wire wire_now : N) (status : Status) : Type 0 where
   -- the disk when the files were opened, or when the run ended without
   pub disk_open : D
-  pub opened_first : d.faults disk_open ≤ d.faults disk_now
-  -- where a fault of the disk ended the run in a line, its count rose since
-  pub fails : (file : ℕ) → status ≡ DiskFault file → (told ≡ nothing_told) ⊎ Rose (d.faults disk_open) (d.faults disk_now)
+  pub opened_first : (d.faults disk ≤ d.faults disk_open) × (d.faults disk_open ≤ d.faults disk_now)
+  -- where a fault of the disk ended the run in a line, what was done of this line is told, and the count rose since
+  pub fails : (file : ℕ) → status ≡ DiskFault file → (told ≡ nothing_told) ⊎ ((broken : Broken) × (told.broken ≡ Some broken) × Rose (d.faults disk_open) (d.faults disk_now))
   pub traces : IsTrue d.tells → StandsStill d disk disk_open → (start : ClaimMap) (world : World) →
       IsInOrder registry start world → AreConfigured registry world → IsOf registry (d.seen disk) world →
       WhereOpened status told (Traces d n shown registry world told disk_open disk_now wire wire_now status)

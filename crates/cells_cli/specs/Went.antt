@@ -10,7 +10,10 @@ use Rattle.claim_laws.specs.Facts.{IsInOrder}
 use Rattle.claim_laws.specs.World.{World}
 use Rattle.cells_world.specs.Follows.{AreEventsOf, TakesOnWay}
 use Rattle.cells_world.specs.Lines.{moment_behind, waited_by}
-use Rattle.cells_world.specs.OnWay.{Way}
+use Rattle.cells_world.specs.OnWay.{Way, sent_between}
+use Rattle.cells_world.specs.Packets.{after_puts}
+use Rattle.cells_world.specs.Post.{IsGiven}
+use Rattle.cells_world.specs.Puts.{armed_by, puts_again}
 use Rattle.cells_world.specs.World.{At, Goes, IsIn, Works}
 use Rattle.cells_cli.specs.Told.{Item, notes_told, steps_told}
 
@@ -36,8 +39,8 @@ abbrev pub way_of : {N : Type 0} → WireGhosts N → Beside N → Way
 way_of n here = record { packets = n.queued here.wire; armed = here.armed }
 
 module _ {N : Type 0} (n : WireGhosts N) (shown : Option ℕ) (registry : Registry) where
-  -- A line that was answered so, by these events from a world on, at the moment that the clock showed and the seconds waited before it: its answer is what they
-  -- bring, and so are the steps and notes told of it; where the wire did its work meanwhile the packets taken are those on their way, in order.
+  -- A line that was answered so, by these events from a world on, at the moment read of the clock and the seconds waited before it: its answer is what they bring,
+  -- and so are the steps and notes told of it, and what the wire was given; where it did its work meanwhile the packets taken are those on their way, in order.
   pub record IsOfItem (w : World) (here : Beside N) (item : Item) (own : List Event) (there : Beside N) : Type 0 where
     pub clock : ℕ
     pub read : IsShown shown clock
@@ -45,6 +48,9 @@ module _ {N : Type 0} (n : WireGhosts N) (shown : Option ℕ) (registry : Regist
     pub steps : (run registry own w).trace ≡ w.trace ++ item.steps
     pub notes : (run registry own w).notes ≡ w.notes ++ item.notes
     pub waited : there.waited ≡ waited_by item.line here.waited
+    -- the wire was given the packet that is put again and each that was sent, in order, but for those that are armed to be lost
+    pub sent : IsGiven n here.wire there.wire (armed_by item.line here.armed) (puts_again item.line w.sent ++ sent_between w (run registry own w))
+    pub armed : there.armed ≡ after_puts (puts_again item.line w.sent ++ sent_between w (run registry own w)) (armed_by item.line here.armed)
     pub later : n.faults here.wire ≤ n.faults there.wire
     pub took : Works n here.wire there.wire → TakesOnWay registry w (moment_behind here.waited clock) item.line item.answer (way_of n here) are.taken (way_of n there)
 

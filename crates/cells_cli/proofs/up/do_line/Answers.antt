@@ -21,7 +21,7 @@ returns-in-Ok-clause-does g c =
     let grows = c.in-Ok.ensures.grows in
     let shown = moment_shown g.C.Clock c.args.clock.now in
     let read = is_shown g.C.Clock.tells (g.C.Clock.moment c.args.clock.now) c.now-now.result (λ t. c.now-now.ensures.moment t) in
-    let went = went_line g.D.Disk g.N.Wire shown before after c.args.number c.now-now.result c.args.line.now c.in-Ok.answer grows c.in-Ok.ensures.registry c.in-Ok.ensures.waits read c.line.ensures.later c.in-Ok.ensures.follows in
+    let went = went_line g.D.Disk g.N.Wire shown before after c.args.number c.now-now.result c.args.line.now c.in-Ok.answer grows c.in-Ok.ensures.registry c.in-Ok.ensures.waits read c.line.ensures.later c.in-Ok.ensures.puts c.in-Ok.ensures.follows in
     let notes : c.behind.result.now ≡ grows.notes = c.behind.ensures ∙ new_ones c.args.cluster.now.notes.items grows.notes c.line.new.self.notes.items c.notes-notes.result.now c.notes.result.now c.notes-notes.ensures c.notes.ensures grows.noted in
     let steps : c.behind-in-Ok.result.now ≡ grows.steps = c.behind-in-Ok.ensures ∙ new_ones c.args.cluster.now.trace.items grows.steps c.line.new.self.trace.items c.trace-steps.result.now c.trace.result.now c.trace-steps.ensures c.trace.ensures grows.trace in
     let told = subst (λ (ss : List Transition). Tells g.W.Sink (answered_text c.args.number grows.notes ss c.in-Ok.answer) c.args.out.now c.tell_line.new.out c.tell_line.result) steps
@@ -41,7 +41,7 @@ returns-in-Err-clause-does g c =
     let read = is_shown g.C.Clock.tells (g.C.Clock.moment c.args.clock.now) c.now-now.result (λ t. c.now-now.ensures.moment t) in
     let off = broken_off g.W.Sink g.D.Disk g.N.Wire shown before after c.args.out.now c.tell_end-told.new.out g.met.D.Disk.only_now c.requires.ready
     (record { number = c.args.number; line = c.args.line.now; notes = c.past.result.now; steps = c.past-in-Err.result.now })
-    (record { clock = c.now-now.result; read = read; later = c.line.ensures.later.1; line = c.in-Err.ensures.breaks; steps = steps; notes = notes })
+    (record { clock = c.now-now.result; read = read; later = c.line.ensures.later; line = c.in-Err.ensures.breaks; steps = steps; notes = notes })
     c.in-Err.error c.in-Err.ensures.end c.tell_end-told.result c.tell_end-told.ensures.told in
     subst (λ r. DoesLine g.W.Sink g.D.Disk g.N.Wire shown c.args.number c.args.line.now before after c.args.out.now c.tell_end-told.new.out r) (sym c.stopped.ensures) off
 

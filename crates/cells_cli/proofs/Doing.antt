@@ -48,9 +48,6 @@ cluster_apart (Damaged file (RefusedEntry index)) h = cc
 cluster_apart (Damaged file (LacksCell cell)) h = cc
 cluster_apart (Damaged file SpentEpochs) h = cc
 
-same_broken : (a b : Broken) → Some a ≡ Some b → a ≡ b
-same_broken a b is = cc
-
 -- it does not end a run between two lines, and is a fault of the disk where that is told
 cluster_within : (error : ClusterError) → IsBetween (status_of_cluster error) → ⊥
 cluster_within (DiskFailed file) between = between
@@ -85,76 +82,80 @@ written_whole w told out out_now (Damaged file SpentEpochs) all = all
 
 module _ {D N : Type 0} (d : DiskGhosts D) (n : WireGhosts N) (shown : Option ℕ) where
   -- nothing came behind the last line that was told
-  pub ends_there : (items : List Item) (a b : At D N) (status : Status) → IsReady d b.disk b.cluster → Went d n shown a items b → ((file : ℕ) → status ≢ DiskFault file) → EndsBy d n shown (record { items = items; broken = None }) a b status
+  abbrev pub ends_there : (items : List Item) (a b : At D N) (status : Status) → IsReady d b.disk b.cluster → Went d n shown a items b → ((file : ℕ) → status ≢ DiskFault file) → EndsBy d n shown (record { items = items; broken = None }) a b status
   ends_there items a b status ready went apart = record {
     here = b;
     ready = ready;
     went = went;
     later = (omega arith, omega arith);
-    behind = inl refl;
+    last = [];
+    behind = inl (refl, refl);
     between = λ _. refl;
-    breaks = λ broken is. absurd cc;
     fails = λ file is. absurd (apart file is);
   }
 
   -- nothing was told, and this came behind
-  pub ends_untold : (a c : At D N) (status : Status) → OnlyNow d → IsReady d a.disk a.cluster → (d.faults a.disk ≤ d.faults c.disk) × (n.faults a.wire ≤ n.faults c.wire) → ComesBehind d n shown a c → (IsBetween status → ⊥) → ((file : ℕ) → status ≢ DiskFault file) → EndsBy d n shown nothing_told a c status
-  ends_untold a c status only_now ready later behind within apart = record {
+  abbrev pub ends_untold : (a c : At D N) (status : Status) → OnlyNow d → IsReady d a.disk a.cluster → (d.faults a.disk ≤ d.faults c.disk) × (n.faults a.wire ≤ n.faults c.wire) → (last : List Numbered) → ComesBehind d n shown None last a c → (IsBetween status → ⊥) → ((file : ℕ) → status ≢ DiskFault file) → EndsBy d n shown nothing_told a c status
+  ends_untold a c status only_now ready later last behind within apart = record {
     here = a;
     ready = ready;
     went = went_nowhere d n shown a only_now ready;
     later = later;
+    last = last;
     behind = behind;
     between = λ h. absurd (within h);
-    breaks = λ broken is. absurd cc;
     fails = λ file is. absurd (apart file is);
   }
 
   -- the cluster came to an end in a line, of which this is told
-  pub ends_broken : (a c : At D N) (status : Status) (broken : Broken) → OnlyNow d → IsReady d a.disk a.cluster → BreaksIn d n shown a broken c → (IsBetween status → ⊥) → ((file : ℕ) → status ≡ DiskFault file → FailedAt d file a.disk c.disk) →
+  abbrev pub ends_broken : (a c : At D N) (status : Status) (broken : Broken) → OnlyNow d → IsReady d a.disk a.cluster → BreaksIn d n shown a broken c → (IsBetween status → ⊥) → ((file : ℕ) → status ≡ DiskFault file → FailedAt d file a.disk c.disk) →
       EndsBy d n shown (record { items = []; broken = Some broken }) a c status
   ends_broken a c status broken only_now ready breaks within fails = record {
     here = a;
     ready = ready;
     went = went_nowhere d n shown a only_now ready;
     later = breaks.later;
-    behind = inr (inr (broken, breaks));
+    last = numbered_broken (Some broken);
+    behind = (refl, breaks);
     between = λ h. absurd (within h);
-    breaks = λ other is. subst (λ b. BreaksIn d n shown a b c) (same_broken broken other is) breaks;
     fails = λ file is. (broken, refl, fails file is);
   }
 
   -- lines, and then others that ended so
-  pub ends_behind : (items : List Item) (told : Telling) (a b c : At D N) (status : Status) → AreCells a.cluster.registry → Went d n shown a items b → EndsBy d n shown told b c status → EndsBy d n shown (record { items = items ++ told.items; broken = told.broken }) a c status
+  abbrev pub ends_behind : (items : List Item) (told : Telling) (a b c : At D N) (status : Status) → AreCells a.cluster.registry → Went d n shown a items b → EndsBy d n shown told b c status → EndsBy d n shown (record { items = items ++ told.items; broken = told.broken }) a c status
   ends_behind items told a b c status configured first end = record {
     here = end.here;
     ready = end.ready;
     went = went_on d n shown a b end.here items told.items configured first end.went;
     later = end.later;
+    last = end.last;
     behind = end.behind;
     between = end.between;
-    breaks = end.breaks;
     fails = end.fails;
   }
 
 module _ {W D N : Type 0} (w : SinkGhosts W) (d : DiskGhosts D) (n : WireGhosts N) (shown : Option ℕ) where
   module _ (tells : Bool) (wanted : List Numbered) (refused : Option ℕ) (a c : At D N) (out out_now : W) where
     -- want of memory: nothing was told
-    pub nothing_done : OnlyNow d → IsReady d a.disk a.cluster → (d.faults a.disk ≤ d.faults c.disk) × (n.faults a.wire ≤ n.faults c.wire) → ComesBehind d n shown a c → WritesAll w out out_now [] → Does w d n shown tells wanted refused a c out out_now Memory
-    nothing_done only_now ready later behind told = record {
+    pub nothing_done : OnlyNow d → IsReady d a.disk a.cluster → (d.faults a.disk ≤ d.faults c.disk) × (n.faults a.wire ≤ n.faults c.wire) → (last : List Numbered) → ComesBehind d n shown None last a c → AreFirst last wanted →
+        WritesAll w out out_now [] → Does w d n shown tells wanted refused a c out out_now Memory
+    nothing_done only_now ready later last behind next told = record {
       told = nothing_told;
-      end = ends_untold d n shown a c Memory only_now ready later behind (λ h. h) (λ file is. cc);
+      end = ends_untold d n shown a c Memory only_now ready later last behind (λ h. h) (λ file is. cc);
       lines = λ _. (wanted, refl);
+      next = λ _. next;
       written = told;
     }
 
     -- the cluster came to an end: some first lines were told of
-    pub cluster_ended : (told : Telling) (error : ClusterError) → EndsBy d n shown told a c (status_of_cluster error) → (IsTrue tells → AreFirst (numbered told.items ++ numbered_broken told.broken) wanted) → WritesAll w out out_now (telling_text told) →
+    pub cluster_ended : (told : Telling) (error : ClusterError) (end : EndsBy d n shown told a c (status_of_cluster error)) → (IsTrue tells → AreFirst (numbered told.items ++ numbered_broken told.broken) wanted) →
+        (IsTrue tells → AreFirst (numbered told.items ++ end.last) wanted) → WritesAll w out out_now (telling_text told) →
         Does w d n shown tells wanted refused a c out out_now (status_of_cluster error)
-    cluster_ended told error end first written = record {
+    cluster_ended told error end first next written = record {
       told = told;
       end = end;
       lines = λ t. told_first wanted refused told error (first t);
+      next = next;
       written = written_whole w told out out_now error written;
     }
 
@@ -168,14 +169,16 @@ module _ {W D N : Type 0} (w : SinkGhosts W) (d : DiskGhosts D) (n : WireGhosts 
       told = record { items = item ∷ []; broken = None };
       end = ends_there d n shown (item ∷ []) a c End ready_now went (λ file is. cc);
       lines = λ _. (refl, refl, refl);
+      next = λ _. ([], refl);
       written = λ t. told t ∙ ap (λ (b : List ℕ). w.written out ++ b) (whole_text item);
     }
     answered item went ready_now (Err MemoryStop) told =
-        nothing_done true (record { number = item.number; line = item.line } ∷ []) None a c out out_now only_now ready went.later (inr (inl (item, went, ready_now))) told
+        nothing_done true (record { number = item.number; line = item.line } ∷ []) None a c out out_now only_now ready went.later (numbered (item ∷ [])) (inr (inl (item, refl, went, ready_now))) ([], refl) told
     answered item went ready_now (Err WriteStop) told = record {
       told = record { items = item ∷ []; broken = None };
       end = ends_there d n shown (item ∷ []) a c WriteFault ready_now went (λ file is. cc);
       lines = λ _. ([], refl);
+      next = λ _. ([], refl);
       written = λ t. let p = told.0 t in (p.0, subst (IsPrefix p.0) (whole_text item) p.1, p.2);
     }
     answered item went ready_now (Err (ScriptStop line)) told = absurd told
@@ -187,13 +190,14 @@ module _ {W D N : Type 0} (w : SinkGhosts W) (d : DiskGhosts D) (n : WireGhosts 
         DoesLine w d n shown broken.number broken.line a c out out_now (stopped_by r error)
     broken_off broken breaks error ends (Ok done) told =
         cluster_ended true (record { number = broken.number; line = broken.line } ∷ []) None a c out out_now (record { items = []; broken = Some broken }) error
-        (ends_broken d n shown a c (status_of_cluster error) broken only_now ready breaks (cluster_within error) (cluster_fails d a.disk c.disk error ends)) (λ _. ([], refl)) told
+        (ends_broken d n shown a c (status_of_cluster error) broken only_now ready breaks (cluster_within error) (cluster_fails d a.disk c.disk error ends)) (λ _. ([], refl)) (λ _. ([], refl)) told
     broken_off broken breaks error ends (Err MemoryStop) told =
-        nothing_done true (record { number = broken.number; line = broken.line } ∷ []) None a c out out_now only_now ready breaks.later (inr (inr (broken, breaks))) told
+        nothing_done true (record { number = broken.number; line = broken.line } ∷ []) None a c out out_now only_now ready breaks.later (numbered_broken (Some broken)) (inr (inr (broken, refl, breaks))) ([], refl) told
     broken_off broken breaks error ends (Err WriteStop) told = record {
       told = record { items = []; broken = Some broken };
       end = ends_broken d n shown a c WriteFault broken only_now ready breaks (λ h. h) (λ file is. absurd cc);
       lines = λ _. ([], refl);
+      next = λ _. ([], refl);
       written = told.0;
     }
     broken_off broken breaks error ends (Err (ScriptStop line)) told = absurd told
@@ -212,6 +216,7 @@ module _ {W D N : Type 0} (w : SinkGhosts W) (d : DiskGhosts D) (n : WireGhosts 
           told = nothing_told;
           end = ends_there d n shown [] a a End ready (went_nowhere d n shown a only_now ready) (λ file is. cc);
           lines = λ _. (refl, refl, refl);
+          next = λ _. ([], refl);
           written = λ t. sym (append-nil (w.written out));
         }))
 
@@ -220,11 +225,12 @@ module _ {W D N : Type 0} (w : SinkGhosts W) (d : DiskGhosts D) (n : WireGhosts 
       told = nothing_told;
       end = ends_there d n shown [] a a (Script number) ready (went_nowhere d n shown a only_now ready) (λ file is. cc);
       lines = λ _. (refl, refl, refl);
+      next = λ _. ([], refl);
       written = λ t. sym (append-nil (w.written out));
     })
 
     pub no_memory : DoesText w d n shown number text a a out out (Err MemoryStop)
-    no_memory = nothing_done true (done_with number (reading_of text) []) (refused_with number (reading_of text) None) a a out out only_now ready (omega arith, omega arith) (inl refl) (λ t. sym (append-nil (w.written out)))
+    no_memory = nothing_done true (done_with number (reading_of text) []) (refused_with number (reading_of text) None) a a out out only_now ready (omega arith, omega arith) [] (inl (refl, refl)) (done_with number (reading_of text) [], refl) (λ t. sym (append-nil (w.written out)))
 
     pub wanted_line : (line : Rattle.cells_script.specs.declared.line.Line.Line) → Wanted line ≡ reading_of text → (c : At D N) (out_now : W) (result : Result (Unit {0}) UpStop) → DoesLine w d n shown number line a c out out_now result → DoesText w d n shown number text a c out out_now result
     wanted_line line is c out_now result does = subst (λ r. DoesSo r c out_now (ended result)) is does

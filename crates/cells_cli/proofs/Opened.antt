@@ -1,5 +1,5 @@
 -- What a run of a script comes to, from what its opening and its lines came to.
-use Rattle.std.proofs.Common.{◌≡◌, ◌⊎◌, inl, inr, ℕ, ◌≤◌, IsTrue, List, [], ◌∷◌, ◌++◌, length, drop, Option, Some, Result, Ok, Err, refl, sym, ◌∙◌, ap, subst, arith}
+use Rattle.std.proofs.Common.{◌≡◌, ◌⊎◌, inl, inr, ℕ, ◌≤◌, IsTrue, List, [], ◌∷◌, ◌++◌, length, drop, Option, None, Some, Result, Ok, Err, refl, sym, ◌∙◌, ap, subst, arith}
 use Rattle.std.specs.Prelude.{IsSome}
 use Rattle.std.specs.FinMap as map
 use Rattle.std.proofs.lemmas.List.{append-nil}
@@ -32,11 +32,11 @@ use Rattle.cells_world.specs.declared.fault.ClusterError.TheVariants.{DiskFailed
 use Rattle.cells_world.specs.declared.fault.Damage.TheVariants.{NotAJournal as NoJournal, BadEntry as RefusedEntry, ConfigLacks as LacksCell, EpochsSpent as SpentEpochs}
 use Rattle.cells_world.proofs.Served.{ready_is_of}
 use Rattle.cells_world.proofs.Further.{run_grows}
-use Rattle.cells_cli.specs.Doing.{AreFirst, AreTold, BreaksIn, Does, EndsBy, EndsSo, HasItsCause, IsWritten, ended, status_of_cluster}
+use Rattle.cells_cli.specs.Doing.{AreFirst, AreTold, BreaksIn, ComesBehind, Does, EndsBy, EndsSo, HasItsCause, IsWritten, ended, status_of_cluster}
 use Rattle.cells_cli.specs.ScriptLines.{script_lines_of}
-use Rattle.cells_cli.specs.Script.{line_refused, lines_done}
+use Rattle.cells_cli.specs.Script.{Numbered, line_refused, lines_done}
 use Rattle.cells_cli.specs.Told.{Broken, Item, Telling, steps_told}
-use Rattle.cells_cli.specs.Ups.{BreaksBehind, BringsAbout, Done, EndsThere, OneMore, OpensSo, Traces, Ups, WhereOpened, at_opening, nothing_told}
+use Rattle.cells_cli.specs.Ups.{BreaksBehind, BringsAbout, Done, LeftBehind, OneMore, OpensSo, Traces, Ups, WhereOpened, at_opening, nothing_told}
 use Rattle.cells_cli.specs.Went.{AreOfItems, Beside, Brings, Went, beside}
 use Rattle.cells_cli.specs.declared.status.Status.{Status}
 use Rattle.cells_cli.specs.declared.status.Status.TheVariants.{End, Script, ReadFault, Memory, DiskFault, NotAJournal, BadEntry, ConfigLacks, EpochsSpent}
@@ -128,7 +128,7 @@ module _ {D N : Type 0} (d : DiskGhosts D) (n : WireGhosts N) (shown : Option �
 module _ {S W D N : Type 0} (s : SourceGhosts S) (w : SinkGhosts W) (d : DiskGhosts D) (n : WireGhosts N) (shown : Option ℕ) (registry : Registry) (script : S) (disk : D) (wire : N) where
   -- nothing was opened
   module _ (out : W) (disk_now : D) (wire_now : N) (later : d.faults disk ≤ d.faults disk_now) where
-    none_brought : (status : Status) → ((T : Type 0) → WhereOpened status nothing_told T) → BringsAbout d n shown registry nothing_told disk disk_now wire wire_now status
+    none_brought : (status : Status) → ((T : Type 0) → WhereOpened status nothing_told T) → BringsAbout d n shown registry s.tells (lines_done 0 (script_lines_of (s.left script))) nothing_told disk disk_now wire wire_now status
     none_brought status where_none = record { disk_open = disk_now; opened_first = (later, omega arith); fails = λ file is. inl refl; traces = λ a b e f g h j. where_none _ }
 
     none_told : (status : Status) → AreTold (lines_done 0 (script_lines_of (s.left script))) (line_refused 0 (script_lines_of (s.left script))) nothing_told status → IsWritten w nothing_told out out status → ((T : Type 0) → WhereOpened status nothing_told T) →
@@ -175,26 +175,22 @@ module _ {S W D N : Type 0} (s : SourceGhosts S) (w : SinkGhosts W) (d : DiskGho
       breaks_there : (broken : Broken) → BreaksIn d n shown end.here broken new → BreaksBehind d n shown registry start v before broken end.here.disk new.disk (beside end.here) new.wire
       breaks_there = breaks_behind d n shown registry end.here new same_here (subst AreCells same cells) start v order is_in before traced
 
-      one_more : (item : Item) → Went d n shown end.here (item ∷ []) new → IsReady d new.disk new.cluster → OneMore d n shown registry v end.here.disk new.disk (beside end.here) new.wire
+      one_more : (item : Item) → Went d n shown end.here (item ∷ []) new → IsReady d new.disk new.cluster → OneMore d n shown registry v item end.here.disk new.disk (beside end.here) new.wire
       one_more item went ready = record {
-        item = item;
         there = beside new;
         wire = refl;
         done = done_of d n shown registry v (item ∷ []) end.here new tells ready (went.registry ∙ same_here) went.later
             (subst (λ r. Brings d n shown r v (item ∷ []) end.here new) same_here (went.brings start v (subst (λ r. IsInOrder r start v) (sym same_here) order) is_in));
       }
 
-      came_behind : EndsThere end.here.disk new.disk end.here.wire new.wire
-          ⊎ OneMore d n shown registry v end.here.disk new.disk (beside end.here) new.wire
-          ⊎ ((broken : Broken) × BreaksBehind d n shown registry start v before broken end.here.disk new.disk (beside end.here) new.wire)
-      came_behind = elim end.behind [
-        | inl none ↦ inl (ap (λ (x : At D N). x.disk) none, ap (λ (x : At D N). x.wire) none)
-        | inr (inl more) ↦ inr (inl (one_more more.0 more.1 more.2))
-        | inr (inr broke) ↦ inr (inr (broke.0, breaks_there broke.0 broke.1))
-      ]
+      came_behind : (o : Option Broken) (last : List Numbered) → ComesBehind d n shown o last end.here new → LeftBehind d n shown registry start v before o last end.here.disk new.disk (beside end.here) new.wire
+      came_behind (Some broken) last broke = (broke.0, breaks_there broken broke.1)
+      came_behind None last (inl none) = inl (none.0, (ap (λ (x : At D N). x.disk) none.1, ap (λ (x : At D N). x.wire) none.1))
+      came_behind None last (inr (inl more)) = inr (inl (more.0, more.1, one_more more.0 more.2 more.3))
+      came_behind None last (inr (inr broke)) = inr (inr (broke.0, broke.1, breaks_there broke.0 broke.2))
 
     traces_of : IsTrue d.tells → StandsStill d disk opened → (start : ClaimMap) (world : World) → IsInOrder registry start world → AreConfigured registry world → IsOf registry (d.seen disk) world →
-        Traces d n shown registry world does.told opened new.disk wire new.wire status
+        Traces d n shown registry s.tells (lines_done 0 (script_lines_of (s.left script))) world does.told opened new.disk wire new.wire status
     traces_of tells still start world order configured is_of =
         let legal_cells = subst AreCells same cells in
         let o = opens tells still start world order configured is_of in
@@ -232,12 +228,11 @@ module _ {S W D N : Type 0} (s : SourceGhosts S) (w : SinkGhosts W) (d : DiskGho
           legal = subst (λ s0. IsRun registry s0 [] 0 after.handed (steps_told does.told.items)) o.1.claims (subst (IsRun registry v.claims [] 0 after.handed) trace order_after.legal);
           replayed = ap (λ s0. replay s0 (steps_told does.told.items)) (sym o.1.claims) ∙ ap (replay v.claims) (sym trace) ∙ order_after.stands;
           later = end.later;
-          behind = subst (λ s0. EndsThere end.here.disk new.disk end.here.wire new.wire ⊎ OneMore d n shown registry after end.here.disk new.disk (beside end.here) new.wire
-              ⊎ ((broken : Broken) × BreaksBehind d n shown registry s0 after (steps_told does.told.items) broken end.here.disk new.disk (beside end.here) new.wire)) o.1.claims
-              (came_behind tells v.claims after order_after b.goes.now (steps_told does.told.items) trace);
+          last = end.last;
+          behind = subst (λ s0. LeftBehind d n shown registry s0 after (steps_told does.told.items) does.told.broken end.last end.here.disk new.disk (beside end.here) new.wire) o.1.claims
+              (came_behind tells v.claims after order_after b.goes.now (steps_told does.told.items) trace does.told.broken end.last end.behind);
+          next = does.next;
           between = λ between. (ap (λ (x : At D N). x.disk) (end.between between), ap (λ (x : At D N). x.wire) (end.between between));
-          breaks = λ broken is. subst (λ s0. BreaksBehind d n shown registry s0 after (steps_told does.told.items) broken end.here.disk new.disk (beside end.here) new.wire) o.1.claims
-              (breaks_there tells v.claims after order_after b.goes.now (steps_told does.told.items) trace broken (end.breaks broken is));
         }
 
     pub ups_of : Ups s w d n shown registry script out out_now disk new.disk wire new.wire status

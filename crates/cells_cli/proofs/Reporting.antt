@@ -33,9 +33,9 @@ whole_report : (tells : Bool) (wanted : List Numbered) (refused : Option ℕ) (t
 whole_report tells wanted refused told WriteFault report apart h = absurd (apart refl)
 whole_report tells wanted refused told other report apart h = h
 
-module _ {D N : Type 0} (d : DiskGhosts D) (n : WireGhosts N) (shown : Option ℕ) (registry : Registry) (told : Telling) (disk disk_now : D) (wire wire_now : N) where
+module _ {D N : Type 0} (d : DiskGhosts D) (n : WireGhosts N) (shown : Option ℕ) (registry : Registry) (tells : Bool) (wanted : List Numbered) (told : Telling) (disk disk_now : D) (wire wire_now : N) where
   -- of a run that ended for want of memory, or at a fault of writing, less is said
-  less_between : (world : World) (disk_open : D) (status other : Status) → (IsBetween other → ⊥) → Traces d n shown registry world told disk_open disk_now wire wire_now status → Traces d n shown registry world told disk_open disk_now wire wire_now other
+  less_between : (world : World) (disk_open : D) (status other : Status) → (IsBetween other → ⊥) → Traces d n shown registry tells wanted world told disk_open disk_now wire wire_now status → Traces d n shown registry tells wanted world told disk_open disk_now wire wire_now other
   less_between world disk_open status other within t = record {
     opened = t.opened;
     again = t.again;
@@ -48,9 +48,10 @@ module _ {D N : Type 0} (d : DiskGhosts D) (n : WireGhosts N) (shown : Option �
     legal = t.legal;
     replayed = t.replayed;
     later = t.later;
+    last = t.last;
     behind = t.behind;
+    next = t.next;
     between = λ h. absurd (within h);
-    breaks = t.breaks;
   }
 
   where_less : (status : Status) (T U : Type 0) → (T → U) → WhereOpened status told T → (told ≡ nothing_told) ⊎ U
@@ -62,21 +63,21 @@ module _ {D N : Type 0} (d : DiskGhosts D) (n : WireGhosts N) (shown : Option �
   where_less (EpochsSpent cell) T U f h = inl h
   where_less other T U f h = elim h [ inl none ↦ inl none | inr t ↦ inr (f t) ]
 
-  module _ (own : Status) (brings : BringsAbout d n shown registry told disk disk_now wire wire_now own) where
-    brings_in_memory : BringsAbout d n shown registry told disk disk_now wire wire_now Memory
+  module _ (own : Status) (brings : BringsAbout d n shown registry tells wanted told disk disk_now wire wire_now own) where
+    brings_in_memory : BringsAbout d n shown registry tells wanted told disk disk_now wire wire_now Memory
     brings_in_memory = record {
       disk_open = brings.disk_open;
       opened_first = brings.opened_first;
       fails = λ file is. absurd cc;
-      traces = λ tells still start world order configured is_of. where_less own _ _ (less_between world brings.disk_open own Memory (λ h. h)) (brings.traces tells still start world order configured is_of);
+      traces = λ t still start world order configured is_of. where_less own _ _ (less_between world brings.disk_open own Memory (λ h. h)) (brings.traces t still start world order configured is_of);
     }
 
-    brings_in_writing : BringsAbout d n shown registry told disk disk_now wire wire_now WriteFault
+    brings_in_writing : BringsAbout d n shown registry tells wanted told disk disk_now wire wire_now WriteFault
     brings_in_writing = record {
       disk_open = brings.disk_open;
       opened_first = brings.opened_first;
       fails = λ file is. absurd cc;
-      traces = λ tells still start world order configured is_of. where_less own _ _ (less_between world brings.disk_open own WriteFault (λ h. h)) (brings.traces tells still start world order configured is_of);
+      traces = λ t still start world order configured is_of. where_less own _ _ (less_between world brings.disk_open own WriteFault (λ h. h)) (brings.traces t still start world order configured is_of);
     }
 
 module _ {S W D N : Type 0} (s : SourceGhosts S) (w : SinkGhosts W) (d : DiskGhosts D) (n : WireGhosts N) (shown : Option ℕ) (registry : Registry) (script script_now : S) (out mid now : W) (disk disk_now : D) (wire wire_now : N) where
@@ -111,7 +112,7 @@ module _ {S W D N : Type 0} (s : SourceGhosts S) (w : SinkGhosts W) (d : DiskGho
       told = ups.told;
       lines = λ t. to_first wanted refused ups.told own (ups.lines t);
       report = λ t. (telling_text ups.told ++ last_line Memory, refl, behind (last_line Memory) all t);
-      brings = brings_in_memory d n shown registry ups.told disk disk_now wire wire_now own ups.brings;
+      brings = brings_in_memory d n shown registry s.tells wanted ups.told disk disk_now wire wire_now own ups.brings;
       read = λ t. tt;
       damage = tt;
     }
@@ -135,7 +136,7 @@ module _ {S W D N : Type 0} (s : SourceGhosts S) (w : SinkGhosts W) (d : DiskGho
             (p.1.0, last_apart p.1.0 p.1.1, (λ t. last_told p.1.0 p.1.1 t), (p.1.2.0, ap (λ (x : List ℕ). telling_text ups.told ++ x) p.1.2.1 ∙ sym (append_assoc (telling_text ups.told) p.0 p.1.2.0))),
             p.2 ∙ ap (λ (x : List ℕ). x ++ p.0) (before t) ∙ append_assoc (w.written out) (telling_text ups.told) p.0,
           ));
-      brings = brings_in_writing d n shown registry ups.told disk disk_now wire wire_now own ups.brings;
+      brings = brings_in_writing d n shown registry s.tells wanted ups.told disk disk_now wire wire_now own ups.brings;
       read = λ t. tt;
       damage = tt;
     }

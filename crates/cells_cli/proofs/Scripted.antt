@@ -29,7 +29,7 @@ use Rattle.cells_cli.specs.declared.up.UpStop.{UpStop}
 use Rattle.cells_cli.specs.declared.up.UpStop.TheVariants.{Script as ScriptStop, ReadFault as ReadStop, WriteFault as WriteStop, Memory as MemoryStop, Cluster as ClusterStop}
 use Rattle.cells_cli.proofs.Doing.{all_written, cluster_apart, cluster_ended, ends_behind, ends_there, to_first}
 use Rattle.cells_cli.proofs.Refusals.{here_or_behind}
-use Rattle.cells_cli.proofs.Telling.{numbered_append, all_numbered_append, telling_append}
+use Rattle.cells_cli.proofs.Telling.{numbered_append, telling_append}
 use Rattle.cells_cli.proofs.Went.{went_nowhere, went_on}
 
 -- what one line gives is a front of what it gives with those behind it
@@ -85,7 +85,7 @@ module _ {W D N : Type 0} (w : SinkGhosts W) (d : DiskGhosts D) (n : WireGhosts 
     abbrev DoesHere : Status → Type 0
     DoesHere status = Does w d n shown true (done_with (given + 1) (reading_of text) []) (refused_with (given + 1) (reading_of text) None) b c mid out_now status
 
-    ends_joined : (told : Telling) (status : Status) → EndsBy d n shown told b c status → EndsBy d n shown (record { items = so.items ++ told.items; broken = told.broken }) a c status
+    abbrev ends_joined : (told : Telling) (status : Status) → EndsBy d n shown told b c status → EndsBy d n shown (record { items = so.items ++ told.items; broken = told.broken }) a c status
     ends_joined told status end = ends_behind d n shown so.items told a b c status configured so.went end
 
     -- the text of a line behind that of those before it
@@ -106,11 +106,15 @@ module _ {W D N : Type 0} (w : SinkGhosts W) (d : DiskGhosts D) (n : WireGhosts 
             p.2 ∙ ap (λ (x : List ℕ). x ++ p.0) (so.written t) ∙ append_assoc (w.written out) (items_text so.items) p.0,
           )
 
-      first_joined : IsTrue tells → AreFirst (numbered told.items ++ numbered_broken told.broken) (done_with (given + 1) (reading_of text) []) → AreFirst (numbered (so.items ++ told.items) ++ numbered_broken told.broken) wanted
-      first_joined t first =
+      first_joined : IsTrue tells → (last : List Numbered) → AreFirst (numbered told.items ++ last) (done_with (given + 1) (reading_of text) []) → AreFirst (numbered (so.items ++ told.items) ++ last) wanted
+      first_joined t last first =
           let behind = behind_of (given + 1) (reading_of text) (lines_done (given + 1) rest) in
-          subst (λ (l : List Numbered). AreFirst l wanted) (sym (all_numbered_append so.items told.items told.broken))
-          (first_more (numbered so.items) (numbered told.items ++ numbered_broken told.broken) (done_with (given + 1) (reading_of text) []) behind.0 (done_with (given + 1) (reading_of text) (lines_done (given + 1) rest)) wanted first behind.1 (lines_at t))
+          subst (λ (l : List Numbered). AreFirst l wanted) (sym (ap (λ (l : List Numbered). l ++ last) (numbered_append so.items told.items) ∙ append_assoc (numbered so.items) (numbered told.items) last))
+          (first_more (numbered so.items) (numbered told.items ++ last) (done_with (given + 1) (reading_of text) []) behind.0 (done_with (given + 1) (reading_of text) (lines_done (given + 1) rest)) wanted first behind.1 (lines_at t))
+
+    -- the line that came behind, behind those before
+    next_joined : {status : Status} (does : DoesHere status) → IsTrue tells → AreFirst (numbered (so.items ++ does.told.items) ++ does.end.last) wanted
+    next_joined does t = first_joined does.told t does.end.last (does.next refl)
 
     -- a line more was answered
     pub so_far_more : DoesHere End → SoFar w d n shown tells wanted refused (given + 1) rest a c out out_now
@@ -140,6 +144,7 @@ module _ {W D N : Type 0} (w : SinkGhosts W) (d : DiskGhosts D) (n : WireGhosts 
         record {
           told = joined does.told;
           end = ends_joined does.told (Script k) does.end;
+          next = λ t. next_joined does t;
           lines = λ t. (sym (refuses_at t) ∙ here.1, lines.1, numbered_append so.items does.told.items ∙ ap (λ (l : List Numbered). numbered so.items ++ l) (lines.2 ∙ here.0) ∙ lines_at t);
           written = written_all does.told does.written;
         }
@@ -150,6 +155,7 @@ module _ {W D N : Type 0} (w : SinkGhosts W) (d : DiskGhosts D) (n : WireGhosts 
         record {
           told = joined does.told;
           end = ends_joined does.told ReadFault does.end;
+          next = λ t. next_joined does t;
           lines = λ t. (
             lines.0,
             subst (λ (l : List Numbered). AreFirst l wanted) (sym (numbered_append so.items does.told.items))
@@ -160,20 +166,23 @@ module _ {W D N : Type 0} (w : SinkGhosts W) (d : DiskGhosts D) (n : WireGhosts 
     ended_here WriteStop does = record {
       told = joined does.told;
       end = ends_joined does.told WriteFault does.end;
-      lines = λ t. first_joined does.told t (does.lines refl);
+      lines = λ t. first_joined does.told t (numbered_broken does.told.broken) (does.lines refl);
+      next = λ t. next_joined does t;
       written = written_front does.told does.written;
     }
     ended_here MemoryStop does = record {
       told = joined does.told;
       end = ends_joined does.told Memory does.end;
-      lines = λ t. first_joined does.told t (does.lines refl);
+      lines = λ t. first_joined does.told t (numbered_broken does.told.broken) (does.lines refl);
+      next = λ t. next_joined does t;
       written = written_all does.told does.written;
     }
     ended_here (ClusterStop error) does =
         let own = status_of_cluster error in
         let here = done_with (given + 1) (reading_of text) [] in
         cluster_ended w d n shown tells wanted refused a c out out_now (joined does.told) error (ends_joined does.told own does.end)
-        (λ t. first_joined does.told t (to_first here (refused_with (given + 1) (reading_of text) None) does.told own (does.lines refl)))
+        (λ t. first_joined does.told t (numbered_broken does.told.broken) (to_first here (refused_with (given + 1) (reading_of text) None) does.told own (does.lines refl)))
+        (λ t. next_joined does t)
         (written_all does.told (all_written w does.told mid out_now own (cluster_apart error) does.written))
 
   -- the lines ahead are these
@@ -196,6 +205,7 @@ module _ {W D N : Type 0} (w : SinkGhosts W) (d : DiskGhosts D) (n : WireGhosts 
       refl,
       sym (append-nil (numbered so.items)) ∙ ap (λ ls. numbered so.items ++ lines_done given ls) (sym (none t)) ∙ so.lines t,
     );
+    next = λ t. (lines_done given ahead, ap (λ (l : List Numbered). l ++ lines_done given ahead) (append-nil (numbered so.items)) ∙ so.lines t);
     written = λ t. so.written t ∙ ap (λ (x : List ℕ). w.written out ++ x) (sym (append-nil (items_text so.items)));
   }
 
@@ -209,6 +219,7 @@ module _ {W D N : Type 0} (w : SinkGhosts W) (d : DiskGhosts D) (n : WireGhosts 
       refl,
       sym (append-nil (numbered so.items)) ∙ ap (λ (l : List Numbered). numbered so.items ++ l) (sym (why t).1) ∙ so.lines t,
     );
+    next = λ t. (lines_done given ahead, ap (λ (l : List Numbered). l ++ lines_done given ahead) (append-nil (numbered so.items)) ∙ so.lines t);
     written = λ t. so.written t ∙ ap (λ (x : List ℕ). w.written out ++ x) (sym (append-nil (items_text so.items)));
   }
   ended_between given ahead a b out mid so ready TooMany why = record {
@@ -219,12 +230,14 @@ module _ {W D N : Type 0} (w : SinkGhosts W) (d : DiskGhosts D) (n : WireGhosts 
       refl,
       sym (append-nil (numbered so.items)) ∙ ap (λ (l : List Numbered). numbered so.items ++ l) (sym (why t).1) ∙ so.lines t,
     );
+    next = λ t. (lines_done given ahead, ap (λ (l : List Numbered). l ++ lines_done given ahead) (append-nil (numbered so.items)) ∙ so.lines t);
     written = λ t. so.written t ∙ ap (λ (x : List ℕ). w.written out ++ x) (sym (append-nil (items_text so.items)));
   }
   ended_between given ahead a b out mid so ready Read why = record {
     told = record { items = so.items; broken = None };
     end = ends_there d n shown so.items a b ReadFault ready so.went (λ file is. cc);
     lines = λ t. (refl, (lines_done given ahead, so.lines t));
+    next = λ t. (lines_done given ahead, ap (λ (l : List Numbered). l ++ lines_done given ahead) (append-nil (numbered so.items)) ∙ so.lines t);
     written = λ t. so.written t ∙ ap (λ (x : List ℕ). w.written out ++ x) (sym (append-nil (items_text so.items)));
   }
 

@@ -24,6 +24,3 @@ items_append (item ∷ items) more = ap (λ (t : List ℕ). item_text item ++ t)
 -- with what is told of a line without an answer
 pub telling_append : (items more : List Item) (broken : Option Broken) → items_text (items ++ more) ++ broken_text broken ≡ items_text items ++ (items_text more ++ broken_text broken)
 telling_append items more broken = ap (λ (t : List ℕ). t ++ broken_text broken) (items_append items more) ∙ append_assoc (items_text items) (items_text more) (broken_text broken)
-
-pub all_numbered_append : (items more : List Item) (broken : Option Broken) → numbered (items ++ more) ++ numbered_broken broken ≡ numbered items ++ (numbered more ++ numbered_broken broken)
-all_numbered_append items more broken = ap (λ (t : List Numbered). t ++ numbered_broken broken) (numbered_append items more) ∙ append_assoc (numbered items) (numbered more) (numbered_broken broken)

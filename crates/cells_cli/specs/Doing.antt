@@ -97,10 +97,14 @@ pub record BreaksIn {D N : Type 0} (d : DiskGhosts D) (n : WireGhosts N) (shown 
   pub steps : broken.steps ≡ drop (length old.cluster.trace.items) new.cluster.trace.items
   pub notes : broken.notes ≡ drop (length old.cluster.notes.items) new.cluster.notes.items
 
--- What came behind the last line that was answered and told: nothing, a line that was answered and could not be told, or one at which the cluster came to an end.
-abbrev pub ComesBehind : {D N : Type 0} → DiskGhosts D → WireGhosts N → Option ℕ → At D N → At D N → Type 0
-ComesBehind d n shown here new =
-    (here ≡ new) ⊎ ((item : Item) × Went d n shown here (item ∷ []) new × IsReady d new.disk new.cluster) ⊎ ((broken : Broken) × BreaksIn d n shown here broken new)
+-- What came behind the last line that was answered and told: the line at which the cluster came to an end of which this is told; or nothing, or a line of which
+-- nothing could be told, which was answered, or at which the cluster came to an end. The list has that line, if there is one.
+abbrev pub ComesBehind : {D N : Type 0} → DiskGhosts D → WireGhosts N → Option ℕ → Option Broken → List Numbered → At D N → At D N → Type 0
+ComesBehind d n shown (Some broken) last here new = (last ≡ numbered_broken (Some broken)) × BreaksIn d n shown here broken new
+ComesBehind d n shown None last here new =
+    ((last ≡ []) × (here ≡ new))
+    ⊎ ((item : Item) × (last ≡ numbered (item ∷ [])) × Went d n shown here (item ∷ []) new × IsReady d new.disk new.cluster)
+    ⊎ ((broken : Broken) × (last ≡ numbered_broken (Some broken)) × BreaksIn d n shown here broken new)
 
 -- How doing lines ended of which this is told.
 pub record EndsBy {D N : Type 0} (d : DiskGhosts D) (n : WireGhosts N) (shown : Option ℕ) (told : Telling) (old new : At D N) (status : Status) : Type 0 where
@@ -109,9 +113,9 @@ pub record EndsBy {D N : Type 0} (d : DiskGhosts D) (n : WireGhosts N) (shown : 
   pub ready : IsReady d here.disk here.cluster
   pub went : Went d n shown old told.items here
   pub later : (d.faults here.disk ≤ d.faults new.disk) × (n.faults here.wire ≤ n.faults new.wire)
-  pub behind : ComesBehind d n shown here new
+  pub last : List Numbered
+  pub behind : ComesBehind d n shown told.broken last here new
   pub between : IsBetween status → here ≡ new
-  pub breaks : (broken : Broken) → told.broken ≡ Some broken → BreaksIn d n shown here broken new
   -- a fault of the disk ended the run in a line, of which is told what was done
   pub fails : (file : ℕ) → status ≡ DiskFault file → (broken : Broken) × (told.broken ≡ Some broken) × FailedAt d file here.disk new.disk
 
@@ -120,6 +124,7 @@ pub record Does {W D N : Type 0} (w : SinkGhosts W) (d : DiskGhosts D) (n : Wire
   pub told : Telling
   pub end : EndsBy d n shown told old new status
   pub lines : IsTrue tells → AreTold wanted refused told status
+  pub next : IsTrue tells → AreFirst (numbered told.items ++ end.last) wanted
   pub written : IsWritten w told out out_now status
 
 -- of one line

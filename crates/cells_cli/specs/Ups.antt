@@ -28,11 +28,11 @@ use Rattle.cells_world.specs.World.{IsOf, IsReached, StandsOrFailed}
 use Rattle.cells_world.specs.declared.fault.ClusterError.{ClusterError}
 use Rattle.cells_world.specs.declared.fault.Damage.{Damage}
 use Rattle.cells_world.specs.declared.fault.Damage.TheVariants.{NotAJournal as NoJournal, BadEntry as RefusedEntry, ConfigLacks as LacksCell, EpochsSpent as SpentEpochs}
-use Rattle.cells_cli.specs.Doing.{AreTold, IsBetween, IsWritten}
+use Rattle.cells_cli.specs.Doing.{AreFirst, AreTold, IsBetween, IsWritten}
 use Rattle.cells_cli.specs.ScriptLines.{script_lines_of}
 use Rattle.cells_cli.specs.Script.{Numbered, lines_done, line_refused}
 use Rattle.cells_cli.specs.Status.{last_line}
-use Rattle.cells_cli.specs.Told.{Broken, Item, Telling, steps_told, telling_text}
+use Rattle.cells_cli.specs.Told.{Broken, Item, Telling, numbered, numbered_broken, steps_told, telling_text}
 use Rattle.claim_types.specs.declared.step.Transition.{Transition}
 use Rattle.cells_cli.specs.Went.{AreOfItems, Beside, IsShown}
 use Rattle.cells_cli.specs.declared.status.Status.{Status}
@@ -81,11 +81,20 @@ abbrev pub EndsThere : {D N : Type 0} → D → D → N → N → Type 0
 EndsThere disk disk_now wire wire_now = (disk ≡ disk_now) × (wire ≡ wire_now)
 
 -- one line more was done, which could not be told
-pub record OneMore {D N : Type 0} (d : DiskGhosts D) (n : WireGhosts N) (shown : Option ℕ) (registry : Registry) (w : World) (disk disk_now : D) (here : Beside N) (wire_now : N) : Type 0 where
-  pub item : Item
+pub record OneMore {D N : Type 0} (d : DiskGhosts D) (n : WireGhosts N) (shown : Option ℕ) (registry : Registry) (w : World) (item : Item) (disk disk_now : D) (here : Beside N) (wire_now : N) : Type 0 where
   pub there : Beside N
   pub wire : there.wire ≡ wire_now
   pub done : Done d n shown registry w (item ∷ []) disk disk_now here there
+
+-- What came behind the last line that was answered and told, from the world behind it: the line at which the cluster came to an end of which this is told; or
+-- nothing, or a line of which nothing could be told, which was answered, or at which the cluster came to an end. The list has that line, if there is one.
+abbrev pub LeftBehind : {D N : Type 0} → DiskGhosts D → WireGhosts N → Option ℕ → Registry → ClaimMap → World → List Transition → Option Broken → List Numbered → D → D → Beside N → N → Type 0
+LeftBehind d n shown registry start w before (Some broken) last disk disk_now here wire_now =
+    (last ≡ numbered_broken (Some broken)) × BreaksBehind d n shown registry start w before broken disk disk_now here wire_now
+LeftBehind d n shown registry start w before None last disk disk_now here wire_now =
+    ((last ≡ []) × EndsThere disk disk_now here.wire wire_now)
+    ⊎ ((item : Item) × (last ≡ numbered (item ∷ [])) × OneMore d n shown registry w item disk disk_now here wire_now)
+    ⊎ ((broken : Broken) × (last ≡ numbered_broken (Some broken)) × BreaksBehind d n shown registry start w before broken disk disk_now here wire_now)
 
 -- what stands beside the nodes once they were opened: nothing is armed, and nothing was waited
 abbrev pub at_opening : {N : Type 0} → N → Beside N
@@ -94,9 +103,9 @@ at_opening wire = record { wire = wire; armed = []; waited = 0 }
 -- The transitions that are told are a run of legal steps from the claim map of a world that the files stood for: every node was opened again, with nothing
 -- drawn, and then came the events of the lines, in order; each line's answer, steps and notes are what its events bring. The packets of the events are those that
 -- the wire handed over. At each moment since the files were opened they stood for a world that first events lead to, and behind the last line that was
--- answered and told for the one behind them all. Behind that came nothing, where the run ended between two lines; or one line more, which was answered and
--- could not be told, or at which the cluster came to an end.
-pub record Traces {D N : Type 0} (d : DiskGhosts D) (n : WireGhosts N) (shown : Option ℕ) (registry : Registry) (w : World) (told : Telling) (disk_open disk_now : D) (wire wire_now : N) (status : Status) : Type 0 where
+-- answered and told for the one behind them all. Behind that came nothing, where the run ended between two lines; or the next line that was wanted, which was
+-- answered and could not be told, or at which the cluster came to an end.
+pub record Traces {D N : Type 0} (d : DiskGhosts D) (n : WireGhosts N) (shown : Option ℕ) (registry : Registry) (tells : Bool) (wanted : List Numbered) (w : World) (told : Telling) (disk_open disk_now : D) (wire wire_now : N) (status : Status) : Type 0 where
   pub opened : World
   pub again : IsReopened w opened
   -- each cell of the configuration has an agent, and no other has one
@@ -110,12 +119,10 @@ pub record Traces {D N : Type 0} (d : DiskGhosts D) (n : WireGhosts N) (shown : 
   pub legal : IsRun registry w.claims [] 0 (run registry done.events opened).handed (steps_told told.items)
   pub replayed : replay w.claims (steps_told told.items) ≡ (run registry done.events opened).claims
   pub later : (d.faults disk_then ≤ d.faults disk_now) × (n.faults there.wire ≤ n.faults wire_now)
-  pub behind : EndsThere disk_then disk_now there.wire wire_now
-      ⊎ OneMore d n shown registry (run registry done.events opened) disk_then disk_now there wire_now
-      ⊎ ((broken : Broken) × BreaksBehind d n shown registry w.claims (run registry done.events opened) (steps_told told.items) broken disk_then disk_now there wire_now)
+  pub last : List Numbered
+  pub behind : LeftBehind d n shown registry w.claims (run registry done.events opened) (steps_told told.items) told.broken last disk_then disk_now there wire_now
+  pub next : IsTrue tells → AreFirst (numbered told.items ++ last) wanted
   pub between : IsBetween status → EndsThere disk_then disk_now there.wire wire_now
-  pub breaks : (broken : Broken) → told.broken ≡ Some broken →
-      BreaksBehind d n shown registry w.claims (run registry done.events opened) (steps_told told.items) broken disk_then disk_now there wire_now
 
 -- So it is of a run that got so far that its nodes were opened: of one that came to the end of the script or to a line that is refused, or told anything. Where a
 -- file shows damage nothing is told.
@@ -130,7 +137,7 @@ WhereOpened other told T = (told ≡ nothing_told) ⊎ T
 
 -- What a run brings about of which this is told: where the disk tells its content, and its count of faults stood still until the files were opened, the
 -- transitions told are such a run, from any world in order that the files stood for.
-pub record BringsAbout {D N : Type 0} (d : DiskGhosts D) (n : WireGhosts N) (shown : Option ℕ) (registry : Registry) (told : Telling) (disk disk_now : D) (wire wire_now : N) (status : Status) : Type 0 where
+pub record BringsAbout {D N : Type 0} (d : DiskGhosts D) (n : WireGhosts N) (shown : Option ℕ) (registry : Registry) (tells : Bool) (wanted : List Numbered) (told : Telling) (disk disk_now : D) (wire wire_now : N) (status : Status) : Type 0 where
   -- the disk when the files were opened, or when the run ended without
   pub disk_open : D
   pub opened_first : (d.faults disk ≤ d.faults disk_open) × (d.faults disk_open ≤ d.faults disk_now)
@@ -138,14 +145,14 @@ pub record BringsAbout {D N : Type 0} (d : DiskGhosts D) (n : WireGhosts N) (sho
   pub fails : (file : ℕ) → status ≡ DiskFault file → (told ≡ nothing_told) ⊎ ((broken : Broken) × (told.broken ≡ Some broken) × Rose (d.faults disk_open) (d.faults disk_now))
   pub traces : IsTrue d.tells → StandsStill d disk disk_open → (start : ClaimMap) (world : World) →
       IsInOrder registry start world → AreConfigured registry world → IsOf registry (d.seen disk) world →
-      WhereOpened status told (Traces d n shown registry world told disk_open disk_now wire wire_now status)
+      WhereOpened status told (Traces d n shown registry tells wanted world told disk_open disk_now wire wire_now status)
 
 -- What a run comes to: what is told of its lines and written, and what it brought about.
 pub record Ups {S W D N : Type 0} (s : SourceGhosts S) (w : SinkGhosts W) (d : DiskGhosts D) (n : WireGhosts N) (shown : Option ℕ) (registry : Registry) (script : S) (out out_now : W) (disk disk_now : D) (wire wire_now : N) (status : Status) : Type 0 where
   pub told : Telling
   pub lines : IsTrue s.tells → AreTold (lines_done 0 (script_lines_of (s.left script))) (line_refused 0 (script_lines_of (s.left script))) told status
   pub written : IsWritten w told out out_now status
-  pub brings : BringsAbout d n shown registry told disk disk_now wire wire_now status
+  pub brings : BringsAbout d n shown registry s.tells (lines_done 0 (script_lines_of (s.left script))) told disk disk_now wire wire_now status
 
 -- The reports of a run with a script, by how it ended: what is told, and the last line. A fault of writing leaves a front of a report with
 -- another last line.
@@ -195,7 +202,7 @@ pub record RunsUp {S W D N : Type 0} (s : SourceGhosts S) (w : SinkGhosts W) (d 
   pub told : Telling
   pub lines : IsTrue s.tells → AreTold (lines_done 0 (script_lines_of (s.left script))) (line_refused 0 (script_lines_of (s.left script))) told status
   pub report : Writes w out out_now (IsReportOf s.tells (lines_done 0 (script_lines_of (s.left script))) (line_refused 0 (script_lines_of (s.left script))) told status)
-  pub brings : BringsAbout d n shown registry told disk disk_now wire wire_now status
+  pub brings : BringsAbout d n shown registry s.tells (lines_done 0 (script_lines_of (s.left script))) told disk disk_now wire wire_now status
   pub read : IsTrue s.tells → EndsUpAt (s.left script) (s.left script_now) status
   pub damage : IsDamaged d registry disk disk_now status
 

@@ -13,9 +13,11 @@ use Rattle.disk_journal.specs.declared.disk.Disk.{Ghosts}
 use Rattle.disk_journal.specs.Disk.{Image}
 use Rattle.disk_journal.specs.Journal.{HasBodies, IsOwn, JournalState}
 use Rattle.disk_journal.specs.Moments.{LeavesOnly}
-use Rattle.disk_journal.specs.Effects.{OthersStay, StaysElsewhere, CountsOwn, FailedAt, IsSettled, IsOpening, IsAppending, Adds, AddsAtMost}
-use Rattle.disk_journal.specs.Entries.{HasEntries, HasEntriesOr, Stands, Rests as RestsWith, TouchesOnly, HasAsBefore, OpensAs, AlwaysHasEntries}
-use Rattle.disk_journal.proofs.Entries.{has_either, opens_as}
+use Rattle.disk_journal.specs.Effects.{StaysElsewhere, CountsOwn, FailedAt, HasBodiesOr, IsSettled, IsOpening, IsAppending, IsTrimmed, Adds, AddsAtMost, LeavesBodyInDoubt}
+use Rattle.disk_journal.specs.Entries.{HasEntries, Stands, Rests as RestsWith, TouchesOnly}
+use Rattle.disk_journal.proofs.Entries.{has_either}
+use Rattle.disk_journal.proofs.Reading.{one_list}
+use Rattle.disk_journal.proofs.Settled.{settled_seen}
 use Rattle.disk_journal.proofs.Moments.{SeenMayStay, weaker, joins}
 use Rattle.entry_codec.specs.Spelling.{cell_entry_bytes}
 use Rattle.cell_store.specs.declared.fault.CellOpenFault.{CellOpenFault}
@@ -23,7 +25,7 @@ use Rattle.cell_store.specs.declared.fault.CellOpenFault.TheVariants.{NotAJourna
 use Rattle.cell_store.specs.declared.state.CellState.{CellState}
 use Rattle.cell_store.specs.declared.store.CellStore.{CellStore}
 use Rattle.cell_store.specs.Store.{store, kept, stored, keeper, IsKept, IsStore, Rests}
-use Rattle.cell_store.specs.Opening.{IsOpenFault, IsOpened, HasNextEpoch, HasAsBeforeOrNext, OpensAtNext, IfRefused, next_epoch}
+use Rattle.cell_store.specs.Opening.{GoesOn, IfRefused, IsOpenFault, IsOpened, IsOpeningOrNext, KeepsBodies, OpensAtNext, OpensUnwritten, next_epoch}
 use Rattle.cell_store.specs.Turns.{IsReplay, IsReplayed}
 use Rattle.cell_store.proofs.Keeping.{epoch_kept}
 use Rattle.cell_store.proofs.Replaying.{is_within}
@@ -96,18 +98,22 @@ module _ {D : Type 0} (g : Ghosts D) (file : ℕ) (old mid new : D) where
   pub touches_on : TouchesOnly g file old mid → TouchesOnly g file mid new → TouchesOnly g file old new
   touches_on first second = record { elsewhere = elsewhere_on first.elsewhere second.elsewhere; counts = counts_on first.counts second.counts }
 
--- at each moment
-module _ {D : Type 0} (g : Ghosts D) (cell : ℕ) (old mid : D) (opening : LeavesOnly g old mid (IsOpening g old cell)) where
-  as_before : AlwaysHasEntries g (store cell) old cell → (img : Image) → IsOpening g old cell img → HasAsBefore g (store cell) old cell img
-  as_before each img is =
-      let had = each is.from is.might in
-      record { es = had.0; has = record { bodies = is.own.bodies (map cell_entry_bytes had.0) had.1.bodies; entries = had.1.entries }; from = is.from; might = is.might; had = had.1; others = is.others }
+keeps_trimmed : (cell : ℕ) (from img : Image) → IsTrimmed cell from img → KeepsBodies cell from img
+keeps_trimmed cell from img is = record { bodies = is.bodies; no_journal = λ none. is.no_journal none cell refl }
 
-  pub opens_before : OpensAs g (store cell) old mid cell
-  opens_before = opens_as g (store cell) old mid cell opening
+-- at each moment, and to a read at the end
+module _ {D : Type 0} (g : Ghosts D) (cell : ℕ) (old mid : D) (opening : LeavesOnly g old mid (IsOpening g old cell)) (keeps : IsTrue g.tells → IsTrimmed cell (g.seen old) (g.seen mid)) where
+  begins : (img : Image) → IsOpening g old cell img → IsOpeningOrNext g cell old img
+  begins img is = record { this = inl (is.from, is.might, keeps_trimmed cell is.from img is.own); others = is.others }
 
   pub opens_to_before : OpensAtNext g cell old mid
-  opens_to_before each = weaker g old mid (HasAsBefore g (store cell) old cell) (HasAsBeforeOrNext g cell old) (opens_before each) (λ img is. record { this = inl is; others = is.others })
+  opens_to_before = weaker g old mid (IsOpening g old cell) (IsOpeningOrNext g cell old) opening begins
+
+  pub opens_unwritten : OpensUnwritten g cell old mid
+  opens_unwritten = record { moments = opening; reads = keeps }
+
+  pub reads_before : IsTrue g.tells → GoesOn cell (g.seen old) (g.seen mid)
+  reads_before tells = inl (keeps_trimmed cell (g.seen old) (g.seen mid) (keeps tells))
 
   module _ (new : D) (journal : JournalState) (here : journal.file ≡ cell) (bodies : List (List ℕ)) (s : Store) (is : IsReplay cell bodies s) (within : s.epoch + 1 ≤ GREATEST_EPOCH) (body : List ℕ) (spelled : body ≡ cell_entry_bytes (Epoch (s.epoch + 1)))
       (seen_may_stay : SeenMayStay g) (read : IsTrue g.tells → HasBodies (g.seen old) cell bodies) (stays : StaysElsewhere g cell old mid) (settled : IsTrue g.tells → IsSettled g mid journal bodies) where
@@ -117,26 +123,38 @@ module _ {D : Type 0} (g : Ghosts D) (cell : ℕ) (old mid : D) (opening : Leave
     had : IsTrue g.tells → HasEntries (store cell) (g.seen old) cell is.es
     had tells = record { bodies = subst (HasBodies (g.seen old) cell) (sym is.stand.spelled) (read tells); entries = is.stand.entries }
 
-    added : IsTrue g.tells → (img : Image) → IsAppending g mid journal.file (map cell_entry_bytes is.es) (cell_entry_bytes next) img → HasAsBeforeOrNext g cell old img
-    added tells img at =
-        let others : OthersStay g old cell img = (λ q other. (stays tells q other).leaves (img q) (at.others q (λ own. other (own ∙ here)))) in
-        let either : HasEntriesOr (store cell) img cell is.es (Some next) = subst (λ q. HasEntriesOr (store cell) img q is.es (Some next)) here (has_either (store cell) next img journal.file is.es is.stand.entries (epoch_entry cell s within) at.own) in
-        record {
-          this = ⊎_elim
-              (λ (has : HasEntries (store cell) img cell is.es). inl (record { es = is.es; has = has; from = g.seen old; might = λ q. seen_may_stay old q; had = had tells; others = others }))
-              (λ (has : HasEntries (store cell) img cell (is.es ++ next ∷ [])). inr (record { es = is.es; state = s; had = had tells; folds = is.stand.folds; has = has }))
-              either;
-          others = others;
-        }
+    -- the file has the entries, or these and the next epoch
+    goes_on : IsTrue g.tells → (img : Image) → HasBodiesOr img journal.file bodies body → GoesOn cell (g.seen old) img
+    goes_on tells img either =
+        let at_file : HasBodiesOr img cell bodies body = subst (λ q. HasBodiesOr img q bodies body) here either in
+        let of_next : HasBodiesOr img cell bodies (cell_entry_bytes next) = subst (HasBodiesOr img cell bodies) spelled at_file in
+        let of_entries : HasBodiesOr img cell (map cell_entry_bytes is.es) (cell_entry_bytes next) = subst (λ (bs : List (List ℕ)). HasBodiesOr img cell bs (cell_entry_bytes next)) (sym is.stand.spelled) of_next in
+        ⊎_elim
+        (λ (has : HasEntries (store cell) img cell is.es). inl (record {
+          bodies = λ bs before. subst (HasBodies img cell) (one_list (g.seen old) cell (map cell_entry_bytes is.es) bs (had tells).bodies before) has.bodies;
+          no_journal = λ none. absurd (none bodies (read tells));
+        }))
+        (λ (has : HasEntries (store cell) img cell (is.es ++ next ∷ [])). inr (record { es = is.es; state = s; had = had tells; folds = is.stand.folds; has = has }))
+        (has_either (store cell) next img cell is.es is.stand.entries (epoch_entry cell s within) of_entries)
+
+    added : IsTrue g.tells → (img : Image) → IsAppending g mid journal.file bodies body img → IsOpeningOrNext g cell old img
+    added tells img at = record {
+      this = ⊎_elim (λ keeps. inl (g.seen old, (λ q. seen_may_stay old q), keeps)) (λ more. inr more) (goes_on tells img at.own);
+      others = λ q other. (stays tells q other).leaves (img q) (at.others q (λ own. other (own ∙ here)));
+    }
 
     pub opens_to_next : AddsAtMost g mid new journal body → OpensAtNext g cell old new
-    opens_to_next append each = λ tells.
-        let of_entries = subst (IsSettled g mid journal) (sym is.stand.spelled) (settled tells) in
-        let of_next : AddsAtMost g mid new journal (cell_entry_bytes next) = subst (λ (b : List ℕ). AddsAtMost g mid new journal b) spelled append in
-        joins g old mid new (IsOpening g old cell) (IsAppending g mid journal.file (map cell_entry_bytes is.es) (cell_entry_bytes next)) (HasAsBeforeOrNext g cell old)
-        opening (of_next (map cell_entry_bytes is.es) of_entries)
-        (λ img at. let so = as_before each img at in record { this = inl so; others = at.others })
-        (added tells) tells
+    opens_to_next append = λ tells.
+        joins g old mid new (IsOpening g old cell) (IsAppending g mid journal.file bodies body) (IsOpeningOrNext g cell old)
+        opening (append bodies (settled tells)) begins (added tells) tells
+
+    -- what an append that failed leaves to a read, and one that passed
+    pub reads_in_doubt : LeavesBodyInDoubt g mid new journal body → IsTrue g.tells → GoesOn cell (g.seen old) (g.seen new)
+    reads_in_doubt doubt tells = goes_on tells (g.seen new) (doubt tells bodies (settled tells)).read
+
+    pub reads_next : (now : JournalState) → now.file ≡ journal.file → Adds g mid new journal now body → IsTrue g.tells → GoesOn cell (g.seen old) (g.seen new)
+    reads_next now same adds tells =
+        goes_on tells (g.seen new) (inr (subst (λ q. HasBodies (g.seen new) q (bodies ++ body ∷ [])) same (settled_seen g new now (bodies ++ body ∷ []) (adds tells bodies (settled tells)))))
 
     pub at_rest : (now : JournalState) (state : CellState) → journal.live ≡ true → now.live ≡ true → kept state ≡ next_epoch s → Adds g mid new journal now body → Rests g new (record { journal = now; cell = cell; state = state })
     at_rest now state live live_now same adds = λ tells.

@@ -1,5 +1,5 @@
 -- How a cell's file is read as entries in their turns, why it is not opened, and what an opening leaves of it.
-use Rattle.std.specs.Prelude.{◌≡◌, ◌⊎◌, ℕ, ◌+◌, List, [], ◌∷◌, ◌++◌, take, map, Some, None, Result, Ok, Err}
+use Rattle.std.specs.Prelude.{◌≡◌, ◌⊎◌, ℕ, ◌+◌, IsTrue, List, [], ◌∷◌, ◌++◌, take, map, Some, None, Result, Ok, Err}
 use Rattle.std.specs.List.{slice_get, AllByRecursion}
 use Rattle.claim_types.specs.EntryBounds.{IsCellEntry}
 use Rattle.claim_types.specs.declared.entry.CellEntry.{CellEntry}
@@ -7,13 +7,13 @@ use Rattle.claim_types.specs.declared.entry.CellEntry.TheVariants.{Epoch}
 use Rattle.claim_types.specs.declared.limits.TheConstants.{GREATEST_EPOCH}
 use Rattle.claim_laws.specs.Files.{Store, store_turn, store_in}
 use Rattle.disk_journal.specs.declared.disk.Disk.{Ghosts}
-use Rattle.disk_journal.specs.Disk.{Image}
+use Rattle.disk_journal.specs.Disk.{Image, IsImage}
 use Rattle.disk_journal.specs.Moments.{LeavesOnly}
 use Rattle.disk_journal.specs.Journal.{HasBodies, IsRefused}
-use Rattle.disk_journal.specs.Effects.{OthersStay}
+use Rattle.disk_journal.specs.Effects.{IsOpening, IsTrimmed, OthersStay}
 use Rattle.disk_journal.specs.declared.fault.JournalFault.{JournalFault}
 use Rattle.disk_journal.specs.declared.fault.JournalFault.TheVariants.{NotAJournal as NoJournal, Failed as JournalFailed, Memory as JournalMemory}
-use Rattle.disk_journal.specs.Entries.{HasEntries, Stands, HasAsBefore, AlwaysHasEntries}
+use Rattle.disk_journal.specs.Entries.{HasEntries, Stands}
 use Rattle.entry_codec.specs.Spelling.{cell_entry_bytes}
 use Rattle.cell_store.specs.declared.fault.CellOpenFault.{CellOpenFault}
 use Rattle.cell_store.specs.declared.fault.CellOpenFault.TheVariants.{NotAJournal, BadEntry, EpochsSpent, Failed, Memory}
@@ -65,15 +65,29 @@ pub record HasNextEpoch (cell : ℕ) (from img : Image) : Type 0 where
   pub folds : store_in cell es ≡ Some state
   pub has : HasEntries (store cell) img cell (es ++ Epoch (state.epoch + 1) ∷ [])
 
--- the files at a moment of an opening: the cell's has the entries that some image at its start had, or those that a read gave at its
--- start and the next epoch; and each other file what it might have had
-pub record HasAsBeforeOrNext {D : Type 0} (g : Ghosts D) (cell : ℕ) (old : D) (img : Image) : Type 0 where
-  pub this : HasAsBefore g (store cell) old cell img ⊎ HasNextEpoch cell (g.seen old) img
+-- the file has the bodies that it had in another image, and one that is no journal is as it was
+pub record KeepsBodies (cell : ℕ) (from img : Image) : Type 0 where
+  pub bodies : (bodies : List (List ℕ)) → HasBodies from cell bodies → HasBodies img cell bodies
+  pub no_journal : ((bodies : List (List ℕ)) → HasBodies from cell bodies → ⊥) → img cell ≡ from cell
+
+-- it keeps its bodies, or its entries were all legal in their turns, and behind them it has the next epoch
+abbrev pub GoesOn : ℕ → Image → Image → Type 0
+GoesOn cell from img = KeepsBodies cell from img ⊎ HasNextEpoch cell from img
+
+-- the files at a moment of an opening: the cell's keeps what a crash might have left of it at its start, or goes on from what a read gave of it then; and each
+-- other file is as a crash might have left it
+pub record IsOpeningOrNext {D : Type 0} (g : Ghosts D) (cell : ℕ) (old : D) (img : Image) : Type 0 where
+  pub this : ((from : Image) × IsImage (g.may_leave old) from × KeepsBodies cell from img) ⊎ HasNextEpoch cell (g.seen old) img
   pub others : OthersStay g old cell img
 
 -- What a crash at any moment of an opening leaves.
 abbrev pub OpensAtNext : {D : Type 0} → Ghosts D → ℕ → D → D → Type 0
-OpensAtNext g cell old new = AlwaysHasEntries g (store cell) old cell → LeavesOnly g old new (HasAsBeforeOrNext g cell old)
+OpensAtNext g cell old new = LeavesOnly g old new (IsOpeningOrNext g cell old)
+
+-- What is left where nothing was written: at each moment, and to a read at the end, what does not count may be lost.
+pub record OpensUnwritten {D : Type 0} (g : Ghosts D) (cell : ℕ) (old new : D) : Type 0 where
+  pub moments : LeavesOnly g old new (IsOpening g old cell)
+  pub reads : IsTrue g.tells → IsTrimmed cell (g.seen old) (g.seen new)
 
 -- how a fault of the journal is told
 abbrev pub fault_of : JournalFault → CellOpenFault

@@ -4,14 +4,14 @@ ghost use Rattle.std.specs.FinMap as map;
 ghost use Rattle.claim_types.specs.Bounds.{IsCell};
 ghost use Rattle.claim_types.specs.declared.entry.CellEntry.TheVariants.{Recorded, RowGone, Got};
 ghost use Rattle.disk_journal.specs.Effects.{FailedAt};
-ghost use Rattle.disk_journal.specs.Entries.{OpensAs, TouchesOnly, Untouched};
+ghost use Rattle.disk_journal.specs.Entries.{TouchesOnly, Untouched};
 ghost use Rattle.claim_types.specs.EntryBounds.{IsCellEntry};
 ghost use Rattle.claim_types.specs.declared.limits.TheConstants.{GREATEST_EPOCH};
 ghost use Rattle.disk_journal.specs.Journal.{IsBody};
 ghost use Rattle.entry_codec.specs.Spelling.{cell_entry_bytes};
-ghost use Rattle.cell_store.specs.Store.{store, stored, IsStore, IsSameCell, AreRowsEarlier, Rests};
+ghost use Rattle.cell_store.specs.Store.{stored, IsStore, IsSameCell, AreRowsEarlier, Rests};
 ghost use Rattle.cell_store.specs.Calls.{Writes, WritesAtMost, LeavesInDoubt, MayGetRow, MayBeKept, with_record, without_row, with_range, TellsChanged, IfChanged};
-ghost use Rattle.cell_store.specs.Opening.{IsOpenFault, IsOpened, OpensAtNext, IfRefused};
+ghost use Rattle.cell_store.specs.Opening.{GoesOn, IfRefused, IsOpenFault, IsOpened, OpensAtNext, OpensUnwritten};
 ghost use Rattle.cell_store.specs.declared.fault.CellOpenFault.TheVariants.{Failed as OpenFailed};
 ghost use Rattle.cell_store.specs.declared.fault.RecordFault.TheVariants.{Failed as RecordFailed, Memory as RecordMemory};
 ghost use Rattle.cell_store.specs.declared.fault.StoreFault.TheVariants.{Failed as StoreFailed, Memory as StoreMemory};
@@ -93,7 +93,8 @@ impl CellStore {
         ensures live { IfOk result (λ s. IsTrue s.journal.live) }
         ensures at_rest { IfOk result (Rests D.Disk disk.new) }
         ensures refused { IsTrue D.tells → IfErr result (IsOpenFault cell (D.seen disk.old)) }
-        ensures unwritten { IfRefused result (OpensAs D.Disk (store cell) disk.old disk.new cell) }
+        ensures unwritten { IfRefused result (OpensUnwritten D.Disk cell disk.old disk.new) }
+        ensures reads { IsTrue D.tells → GoesOn cell (D.seen disk.old) (D.seen disk.new) }
         ensures any_moment { OpensAtNext D.Disk cell disk.old disk.new }
         ensures others { TouchesOnly D.Disk cell disk.old disk.new }
         ensures failed { IsErrOf result CellOpenFault.Failed → FailedAt D.Disk cell disk.old disk.new }

@@ -24,7 +24,7 @@ use Rattle.claim_laws.proofs.Law.{run-in_order, start-in_order}
 use Rattle.claim_laws.proofs.Opened.{opened_is_start}
 use Rattle.reconciler.specs.Agent.{kept_by}
 use Rattle.cells_world.specs.Cluster.{IsReady}
-use Rattle.cells_world.specs.Opening.{IsNew, Opens, StandsStill}
+use Rattle.cells_world.specs.Opening.{FailedTwice, FailsTwice, IsNew, KeepsFiles, Opens}
 use Rattle.cells_world.specs.World.{At, at as moment, Breaks, IsIn, IsOf}
 use Rattle.cells_world.specs.declared.cluster.Cluster.{Cluster}
 use Rattle.cells_world.specs.declared.fault.ClusterError.{ClusterError}
@@ -36,7 +36,7 @@ use Rattle.cells_cli.specs.Doing.{AreFirst, AreTold, BreaksIn, ComesBehind, Does
 use Rattle.cells_cli.specs.ScriptLines.{script_lines_of}
 use Rattle.cells_cli.specs.Script.{Numbered, line_refused, lines_done}
 use Rattle.cells_cli.specs.Told.{Broken, Item, Telling, steps_told}
-use Rattle.cells_cli.specs.Ups.{BreaksBehind, BringsAbout, Done, LeftBehind, OneMore, OpensSo, Traces, Ups, WhereOpened, at_opening, nothing_told}
+use Rattle.cells_cli.specs.Ups.{BreaksBehind, Done, WasNotOpened, LeftBehind, OneMore, OpensSo, Traces, Ups, WhereOpened, at_opening, nothing_told}
 use Rattle.cells_cli.specs.Went.{AreOfItems, Beside, Brings, Went, beside}
 use Rattle.cells_cli.specs.declared.status.Status.{Status}
 use Rattle.cells_cli.specs.declared.status.Status.TheVariants.{End, Script, ReadFault, Memory, DiskFault, NotAJournal, BadEntry, ConfigLacks, EpochsSpent}
@@ -52,14 +52,14 @@ TellsDamage (ConfigLacks cell) = Unit {0}
 TellsDamage (EpochsSpent cell) = Unit {0}
 TellsDamage other = ⊥
 
-pub where_opened : (status : Status) (told : Telling) (T : Type 0) → (TellsDamage status → ⊥) → T → WhereOpened status told T
-where_opened End told T whole t = t
-where_opened (Script line) told T whole t = t
-where_opened (NotAJournal file at) told T whole t = absurd (whole tt)
-where_opened (BadEntry file index) told T whole t = absurd (whole tt)
-where_opened (ConfigLacks cell) told T whole t = absurd (whole tt)
-where_opened (EpochsSpent cell) told T whole t = absurd (whole tt)
-where_opened other told T whole t = inr t
+pub where_opened : (status : Status) (N T : Type 0) → (TellsDamage status → ⊥) → T → WhereOpened status N T
+where_opened End N T whole t = t
+where_opened (Script line) N T whole t = t
+where_opened (NotAJournal file at) N T whole t = absurd (whole tt)
+where_opened (BadEntry file index) N T whole t = absurd (whole tt)
+where_opened (ConfigLacks cell) N T whole t = absurd (whole tt)
+where_opened (EpochsSpent cell) N T whole t = absurd (whole tt)
+where_opened other N T whole t = inr t
 
 -- no line ends with one
 pub undamaged : {S W D : Type 0} (s : SourceGhosts S) (w : SinkGhosts W) (d : DiskGhosts D) (opened now : D) (script script_now : S) (out out_now : W) (r : Result (Unit {0}) UpStop) →
@@ -99,17 +99,19 @@ breaks_behind d n shown registry here new same cells start w order is_in before 
       read = breaks.read;
       events = off.0;
       off = off.1;
-      told = b.told;
-      more = b.more;
-      cut = b.cut;
-      few = b.few;
-      trace = trace;
-      notes = grown.notes.is ∙ ap (λ ns. w.notes ++ ns) (sym notes);
+      leaves = record {
+        told = b.told;
+        more = b.more;
+        cut = b.cut;
+        few = b.few;
+        trace = trace;
+        notes = grown.notes.is ∙ ap (λ ns. w.notes ++ ns) (sym notes);
+        moments = b.moments;
+        stands = b.stands;
+        handed = b.handed;
+      };
       legal = subst (IsRun registry start [] 0 after.handed) trace order_after.legal;
       replayed = ap (replay start) (sym trace) ∙ order_after.stands;
-      handed = b.handed;
-      moments = b.moments;
-      stands = b.stands;
     }
 
 -- what lines brought about that were done, from a world that the cluster was in before
@@ -126,14 +128,22 @@ module _ {D N : Type 0} (d : DiskGhosts D) (n : WireGhosts N) (shown : Option �
   }
 
 module _ {S W D N : Type 0} (s : SourceGhosts S) (w : SinkGhosts W) (d : DiskGhosts D) (n : WireGhosts N) (shown : Option ℕ) (registry : Registry) (script : S) (disk : D) (wire : N) where
-  -- nothing was opened
-  module _ (out : W) (disk_now : D) (wire_now : N) (later : d.faults disk ≤ d.faults disk_now) where
-    none_brought : (status : Status) → ((T : Type 0) → WhereOpened status nothing_told T) → BringsAbout d n shown registry s.tells (lines_done 0 (script_lines_of (s.left script))) nothing_told disk disk_now wire wire_now status
-    none_brought status where_none = record { disk_open = disk_now; opened_first = (later, omega arith); fails = λ file is. inl refl; traces = λ a b e f g h j. where_none _ }
+  -- the files were not all opened
+  module _ (out : W) (disk_now : D) (later : d.faults disk ≤ d.faults disk_now) (keeps : KeepsFiles d registry disk disk_now) where
+    abbrev NotOpened : Status → Type 0
+    NotOpened = WasNotOpened d nothing_told disk disk_now disk_now wire wire
 
-    none_told : (status : Status) → AreTold (lines_done 0 (script_lines_of (s.left script))) (line_refused 0 (script_lines_of (s.left script))) nothing_told status → IsWritten w nothing_told out out status → ((T : Type 0) → WhereOpened status nothing_told T) →
-        Ups s w d n shown registry script out out disk disk_now wire wire_now status
-    none_told status lines written where_none = record { told = nothing_told; lines = λ _. lines; written = written; brings = none_brought status where_none }
+    none_opened : (status : Status) → ((file : ℕ) → status ≡ DiskFault file → FailedTwice d file disk disk_now) → NotOpened status
+    none_opened status twice = record { none = refl; ends = (refl, refl); twice = twice }
+
+    none_told : (status : Status) → AreTold (lines_done 0 (script_lines_of (s.left script))) (line_refused 0 (script_lines_of (s.left script))) nothing_told status → IsWritten w nothing_told out out status →
+        ((Opened : Type 0) → WhereOpened status (NotOpened status) Opened) → Ups s w d n shown registry script out out disk disk_now wire wire status
+    none_told status lines written went = record {
+      told = nothing_told;
+      lines = λ _. lines;
+      written = written;
+      brings = record { disk_open = disk_now; opened_first = (later, omega arith); keeps = keeps; went = went _ };
+    }
 
     all_ahead : AreFirst [] (lines_done 0 (script_lines_of (s.left script)))
     all_ahead = (lines_done 0 (script_lines_of (s.left script)), refl)
@@ -141,25 +151,25 @@ module _ {S W D N : Type 0} (s : SourceGhosts S) (w : SinkGhosts W) (d : DiskGho
     none_written : WritesAll w out out []
     none_written t = sym (append-nil (w.written out))
 
-    pub no_room : Ups s w d n shown registry script out out disk disk_now wire wire_now Memory
-    no_room = none_told Memory all_ahead none_written (λ T. inl refl)
+    pub no_room : Ups s w d n shown registry script out out disk disk_now wire wire Memory
+    no_room = none_told Memory all_ahead none_written (λ T. inl (none_opened Memory (λ file is. absurd cc)))
 
-    pub unread : Ups s w d n shown registry script out out disk disk_now wire wire_now ReadFault
-    unread = none_told ReadFault (refl, all_ahead) none_written (λ T. inl refl)
+    pub unread : Ups s w d n shown registry script out out disk disk_now wire wire ReadFault
+    unread = none_told ReadFault (refl, all_ahead) none_written (λ T. inl (none_opened ReadFault (λ file is. absurd cc)))
 
-    pub not_opened : (error : ClusterError) → Ups s w d n shown registry script out out disk disk_now wire wire_now (status_of_cluster error)
-    not_opened (DiskFailed file) = none_told (DiskFault file) all_ahead none_written (λ T. inl refl)
-    not_opened NoRoom = no_room
-    not_opened (Damaged file (NoJournal at)) = none_told (NotAJournal file at) all_ahead none_written (λ T. refl)
-    not_opened (Damaged file (RefusedEntry index)) = none_told (BadEntry file index) all_ahead none_written (λ T. refl)
-    not_opened (Damaged file (LacksCell cell)) = none_told (ConfigLacks cell) all_ahead none_written (λ T. refl)
-    not_opened (Damaged file SpentEpochs) = none_told (EpochsSpent file) all_ahead none_written (λ T. refl)
+    pub not_opened : (error : ClusterError) → FailsTwice d disk disk_now error → Ups s w d n shown registry script out out disk disk_now wire wire (status_of_cluster error)
+    not_opened (DiskFailed file) twice = none_told (DiskFault file) all_ahead none_written (λ T. inl (none_opened (DiskFault file) (λ other is. (let same : file ≡ other = cc in subst (λ q. FailedTwice d q disk disk_now) same twice))))
+    not_opened NoRoom twice = no_room
+    not_opened (Damaged file (NoJournal at)) twice = none_told (NotAJournal file at) all_ahead none_written (λ T. none_opened (NotAJournal file at) (λ other is. absurd cc))
+    not_opened (Damaged file (RefusedEntry index)) twice = none_told (BadEntry file index) all_ahead none_written (λ T. none_opened (BadEntry file index) (λ other is. absurd cc))
+    not_opened (Damaged file (LacksCell cell)) twice = none_told (ConfigLacks cell) all_ahead none_written (λ T. none_opened (ConfigLacks cell) (λ other is. absurd cc))
+    not_opened (Damaged file SpentEpochs) twice = none_told (EpochsSpent file) all_ahead none_written (λ T. none_opened (EpochsSpent file) (λ other is. absurd cc))
 
   -- the cluster was opened, and the lines were done
   module _ (cluster : Cluster) (opened : D) (new : At D N) (out out_now : W) (status : Status)
       (same : cluster.registry ≡ registry) (fresh : IsNew cluster) (ready_then : IsReady d opened cluster)
-      (opens : IsTrue d.tells → StandsStill d disk opened → Opens registry (d.seen disk) cluster)
-      (first : d.faults disk ≤ d.faults opened) (later : d.faults opened ≤ d.faults new.disk) (whole : TellsDamage status → ⊥)
+      (opens : IsTrue d.tells → Opens d registry disk opened cluster)
+      (first : d.faults disk ≤ d.faults opened) (keeps : KeepsFiles d registry disk opened) (later : d.faults opened ≤ d.faults new.disk) (whole : TellsDamage status → ⊥)
       (does : Does w d n shown s.tells (lines_done 0 (script_lines_of (s.left script))) (line_refused 0 (script_lines_of (s.left script))) (moment cluster opened wire) new out out_now status) where
     cells : AreCells cluster.registry
     cells = ready_then.configured
@@ -189,14 +199,14 @@ module _ {S W D N : Type 0} (s : SourceGhosts S) (w : SinkGhosts W) (d : DiskGho
       came_behind None last (inr (inl more)) = inr (inl (more.0, more.1, one_more more.0 more.2 more.3))
       came_behind None last (inr (inr broke)) = inr (inr (broke.0, broke.1, breaks_there broke.0 broke.2))
 
-    traces_of : IsTrue d.tells → StandsStill d disk opened → (start : ClaimMap) (world : World) → IsInOrder registry start world → AreConfigured registry world → IsOf registry (d.seen disk) world →
-        Traces d n shown registry s.tells (lines_done 0 (script_lines_of (s.left script))) world does.told opened new.disk wire new.wire status
-    traces_of tells still start world order configured is_of =
+    traces_of : IsTrue d.tells → (start : ClaimMap) (world : World) → IsInOrder registry start world → AreConfigured registry world → IsOf registry (d.seen disk) world →
+        Traces d n shown registry s.tells (lines_done 0 (script_lines_of (s.left script))) world does.told disk opened new.disk wire new.wire status
+    traces_of tells start world order configured is_of =
         let legal_cells = subst AreCells same cells in
-        let o = opens tells still start world order configured is_of in
+        let o = opens tells start world order configured is_of in
         let v = o.0 in
         let order_v = start-in_order registry v (opened_is_start registry start world v legal_cells order o.1) in
-        let brought = end.went.brings v.claims v (subst (λ r. IsInOrder r v.claims v) (sym same) order_v) o.2 in
+        let brought = end.went.brings v.claims v (subst (λ r. IsInOrder r v.claims v) (sym same) order_v) o.3 in
         let b = subst (λ r. Brings d n shown r v does.told.items (moment cluster opened wire) end.here) same brought in
         let after = run registry b.events v in
         let order_after = run-in_order registry v.claims (wide_of registry legal_cells) b.events v order_v in
@@ -206,12 +216,13 @@ module _ {S W D N : Type 0} (s : SourceGhosts S) (w : SinkGhosts W) (d : DiskGho
         record {
           opened = v;
           again = o.1;
+          epochs = o.2;
           agents = λ cell known. (
               let found = ready_then.agents.there cell (subst (λ r. IsSome (cell_of r cell)) (sym same) known) in
-              subst (λ q. IsSome (map.get v.agents q)) found.2 (subst IsSome (sym (o.2.cells found.0 found.1).agent) refl));
+              subst (λ q. IsSome (map.get v.agents q)) found.2 (subst IsSome (sym (o.3.cells found.0 found.1).agent) refl));
           fresh = λ cell a is. (
-              let found = o.2.only cell a is in
-              let own : a ≡ kept_by found.0 = same_agent a (kept_by found.0) (sym is ∙ ap (map.get v.agents) (sym found.2) ∙ (o.2.cells found.0 found.1).agent) in
+              let found = o.3.only cell a is in
+              let own : a ≡ kept_by found.0 = same_agent a (kept_by found.0) (sym is ∙ ap (map.get v.agents) (sym found.2) ∙ (o.3.cells found.0 found.1).agent) in
               let known = subst (λ r. IsSome (cell_of r found.0.store.cell)) same (ready_then.agents.known found.0 found.1) in
               (subst (λ q. IsSome (cell_of registry q)) found.2 known, ap (λ (x : Agent). x.drawn) own ∙ fresh.drawn found.0 found.1));
           disk_then = end.here.disk;
@@ -243,8 +254,11 @@ module _ {S W D N : Type 0} (s : SourceGhosts S) (w : SinkGhosts W) (d : DiskGho
       brings = record {
         disk_open = opened;
         opened_first = (first, later);
-        fails = λ file is. (let failed = end.fails file is in inr (failed.0, failed.1, rose_earlier (d.faults opened) (d.faults end.here.disk) (d.faults new.disk) end.went.later.0 failed.2.0));
-        traces = λ tells still start world order configured is_of. where_opened status does.told _ whole (traces_of tells still start world order configured is_of);
+        keeps = keeps;
+        went = where_opened status _ _ whole (record {
+          fails = λ file is. (let failed = end.fails file is in (failed.0, failed.1, (rose_earlier (d.faults opened) (d.faults end.here.disk) (d.faults new.disk) end.went.later.0 failed.2.0, failed.2.1)));
+          traces = traces_of;
+        });
       };
     }
 

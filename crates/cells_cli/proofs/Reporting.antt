@@ -20,11 +20,13 @@ use Rattle.cells_cli.specs.Report.{IsReport, WritesFrontOf}
 use Rattle.cells_cli.specs.Script.{Numbered, line_refused, lines_done}
 use Rattle.cells_cli.specs.Status.{last_line}
 use Rattle.cells_cli.specs.Told.{Telling, telling_text}
-use Rattle.cells_cli.specs.Ups.{BringsAbout, EndsUp, EndsUpAt, IsDamaged, IsReportOf, IsUpped, OpensSo, RunsUp, Traces, Ups, WhereOpened, nothing_told}
+use Rattle.cells_cli.specs.Ups.{BringsAbout, EndsUp, EndsUpAt, IsDamaged, IsReportOf, IsUpped, OpensSo, RunsUp, Traces, Ups, WasNotOpened, WasOpened, WhereOpened}
 use Rattle.cells_cli.specs.declared.status.Status.{Status}
-use Rattle.cells_cli.specs.declared.status.Status.TheVariants.{End, Script, ReadFault, WriteFault, Memory, NotAJournal, BadEntry, ConfigLacks, EpochsSpent}
+use Rattle.cells_cli.specs.declared.status.Status.TheVariants.{End, Script, ReadFault, WriteFault, Memory, DiskFault, NotAJournal, BadEntry, ConfigLacks, EpochsSpent}
 use Rattle.cells_cli.specs.declared.up.UpStop.{UpStop}
 use Rattle.cells_cli.specs.declared.up.UpStop.TheVariants.{Script as ScriptStop, ReadFault as ReadStop, WriteFault as WriteStop, Memory as MemoryStop, Cluster as ClusterStop}
+use Rattle.disk_journal.proofs.Moments.{OnlyNow}
+use Rattle.cells_world.proofs.Keeping.{keeps_still}
 use Rattle.cells_cli.proofs.Doing.{all_written, cluster_apart, to_first}
 use Rattle.cells_cli.proofs.Opened.{no_room, unread}
 use Rattle.cells_cli.proofs.Reported.{EndsWith, by_end}
@@ -35,10 +37,11 @@ whole_report tells wanted refused told other report apart h = h
 
 module _ {D N : Type 0} (d : DiskGhosts D) (n : WireGhosts N) (shown : Option ℕ) (registry : Registry) (tells : Bool) (wanted : List Numbered) (told : Telling) (disk disk_now : D) (wire wire_now : N) where
   -- of a run that ended for want of memory, or at a fault of writing, less is said
-  less_between : (world : World) (disk_open : D) (status other : Status) → (IsBetween other → ⊥) → Traces d n shown registry tells wanted world told disk_open disk_now wire wire_now status → Traces d n shown registry tells wanted world told disk_open disk_now wire wire_now other
+  less_between : (world : World) (disk_open : D) (status other : Status) → (IsBetween other → ⊥) → Traces d n shown registry tells wanted world told disk disk_open disk_now wire wire_now status → Traces d n shown registry tells wanted world told disk disk_open disk_now wire wire_now other
   less_between world disk_open status other within t = record {
     opened = t.opened;
     again = t.again;
+    epochs = t.epochs;
     agents = t.agents;
     fresh = t.fresh;
     disk_then = t.disk_then;
@@ -54,30 +57,39 @@ module _ {D N : Type 0} (d : DiskGhosts D) (n : WireGhosts N) (shown : Option �
     between = λ h. absurd (within h);
   }
 
-  where_less : (status : Status) (T U : Type 0) → (T → U) → WhereOpened status told T → (told ≡ nothing_told) ⊎ U
-  where_less End T U f h = inr (f h)
-  where_less (Script line) T U f h = inr (f h)
-  where_less (NotAJournal file at) T U f h = inl h
-  where_less (BadEntry file index) T U f h = inl h
-  where_less (ConfigLacks cell) T U f h = inl h
-  where_less (EpochsSpent cell) T U f h = inl h
-  where_less other T U f h = elim h [ inl none ↦ inl none | inr t ↦ inr (f t) ]
+  -- which of the two it is stays, where both may be
+  where_less : (status : Status) (M N T U : Type 0) → (M → N) → (T → U) → WhereOpened status M T → N ⊎ U
+  where_less End M N T U g f h = inr (f h)
+  where_less (Script line) M N T U g f h = inr (f h)
+  where_less (NotAJournal file at) M N T U g f h = inl (g h)
+  where_less (BadEntry file index) M N T U g f h = inl (g h)
+  where_less (ConfigLacks cell) M N T U g f h = inl (g h)
+  where_less (EpochsSpent cell) M N T U g f h = inl (g h)
+  where_less other M N T U g f h = elim h [ inl none ↦ inl (g none) | inr t ↦ inr (f t) ]
 
   module _ (own : Status) (brings : BringsAbout d n shown registry tells wanted told disk disk_now wire wire_now own) where
+    -- where the other status is no fault of the disk
+    either_less : (other : Status) → (IsBetween other → ⊥) → ((file : ℕ) → other ≢ DiskFault file) →
+        WasNotOpened d told disk brings.disk_open disk_now wire wire_now other ⊎ WasOpened d n shown registry tells wanted told disk brings.disk_open disk_now wire wire_now other
+    either_less other within apart = where_less own _ _ _ _
+        (λ was. record { none = was.none; ends = was.ends; twice = λ file is. absurd (apart file is) })
+        (λ was. record { fails = λ file is. absurd (apart file is); traces = λ t start world order configured is_of. less_between world brings.disk_open own other within (was.traces t start world order configured is_of) })
+        brings.went
+
     brings_in_memory : BringsAbout d n shown registry tells wanted told disk disk_now wire wire_now Memory
     brings_in_memory = record {
       disk_open = brings.disk_open;
       opened_first = brings.opened_first;
-      fails = λ file is. absurd cc;
-      traces = λ t still start world order configured is_of. where_less own _ _ (less_between world brings.disk_open own Memory (λ h. h)) (brings.traces t still start world order configured is_of);
+      keeps = brings.keeps;
+      went = either_less Memory (λ h. h) (λ file is. cc);
     }
 
     brings_in_writing : BringsAbout d n shown registry tells wanted told disk disk_now wire wire_now WriteFault
     brings_in_writing = record {
       disk_open = brings.disk_open;
       opened_first = brings.opened_first;
-      fails = λ file is. absurd cc;
-      traces = λ t still start world order configured is_of. where_less own _ _ (less_between world brings.disk_open own WriteFault (λ h. h)) (brings.traces t still start world order configured is_of);
+      keeps = brings.keeps;
+      went = either_less WriteFault (λ h. h) (λ file is. cc);
     }
 
 module _ {S W D N : Type 0} (s : SourceGhosts S) (w : SinkGhosts W) (d : DiskGhosts D) (n : WireGhosts N) (shown : Option ℕ) (registry : Registry) (script script_now : S) (out mid now : W) (disk disk_now : D) (wire wire_now : N) where
@@ -253,12 +265,12 @@ is_report registry script told tells t other report h is = (told, h, is)
 
 -- a configuration that gives no work
 module _ {S W D N : Type 0} (s : SourceGhosts S) (w : SinkGhosts W) (d : DiskGhosts D) (n : WireGhosts N) (shown : Option ℕ) (registry : Registry) (script : S) (out now : W) (disk : D) (wire : N) where
-  pub config_fails : (fault : ConfigFault) (job : Result Job Status) → Configures (Err fault) job → job ≡ Ok (does_lines registry) → (result : Status) → EndsWith (status_of_config fault) result
+  pub config_fails : OnlyNow d → (fault : ConfigFault) (job : Result Job Status) → Configures (Err fault) job → job ≡ Ok (does_lines registry) → (result : Status) → EndsWith (status_of_config fault) result
       → (result ≢ WriteFault → WritesAll w out now (last_line result)) → (result ≡ WriteFault → WritesFrontOf w out now (status_of_config fault)) → RunsUp s w d n shown registry script script out now disk disk wire wire result
-  config_fails Read job told is result ends all part =
-      finished s w d n shown registry script script out out now disk disk wire wire ReadFault (λ h. cc) (unread s w d n shown registry script disk wire out disk wire (omega arith)) (λ t. tt) tt result ends all part
-  config_fails NoSpace job told is result ends all part =
-      finished s w d n shown registry script script out out now disk disk wire wire Memory (λ h. cc) (no_room s w d n shown registry script disk wire out disk wire (omega arith)) (λ t. tt) tt result ends all part
-  config_fails Long job told is result ends all part = absurd cc
-  config_fails (Refused number) job told is result ends all part = absurd cc
-  config_fails NoSuchCell job told is result ends all part = absurd cc
+  config_fails only_now Read job told is result ends all part =
+      finished s w d n shown registry script script out out now disk disk wire wire ReadFault (λ h. cc) (unread s w d n shown registry script disk wire out disk (omega arith) (keeps_still d registry disk only_now)) (λ t. tt) tt result ends all part
+  config_fails only_now NoSpace job told is result ends all part =
+      finished s w d n shown registry script script out out now disk disk wire wire Memory (λ h. cc) (no_room s w d n shown registry script disk wire out disk (omega arith) (keeps_still d registry disk only_now)) (λ t. tt) tt result ends all part
+  config_fails only_now Long job told is result ends all part = absurd cc
+  config_fails only_now (Refused number) job told is result ends all part = absurd cc
+  config_fails only_now NoSuchCell job told is result ends all part = absurd cc

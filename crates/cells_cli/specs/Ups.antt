@@ -1,14 +1,13 @@
 -- What a run of a script over the service and its cells comes to.
 use Rattle.std.specs.Prelude.{◌≡◌, ◌≢◌, ◌⊎◌, ℕ, ◌≤◌, Bool, IsSome, IsTrue, List, [], ◌∷◌, ◌++◌, length, Option, None, Some, Err}
 use Rattle.std.specs.FinMap as map
-use Rattle.cells_base.specs.Causes.{Rose}
 use Rattle.cells_edge.specs.Edge.{IsPrefix}
 use Rattle.cells_edge.specs.Streams.{Writes}
 use Rattle.cells_edge.specs.declared.sink.Sink.{Ghosts as SinkGhosts}
 use Rattle.cells_edge.specs.declared.source.Source.{Ghosts as SourceGhosts}
-use Rattle.cells_edge.specs.declared.wire.Packet.{Packet as WirePacket}
 use Rattle.cells_edge.specs.declared.wire.Wire.{Ghosts as WireGhosts}
 use Rattle.disk_journal.specs.Disk.{Image, IsImage}
+use Rattle.disk_journal.specs.Effects.{FailedAt}
 use Rattle.disk_journal.specs.Moments.{LeavesOnly}
 use Rattle.disk_journal.specs.declared.disk.Disk.{Ghosts as DiskGhosts}
 use Rattle.claim_map.specs.Legal.{IsRun, replay}
@@ -20,11 +19,10 @@ use Rattle.claim_laws.specs.Nodes.{Agent}
 use Rattle.claim_laws.specs.Proper.{AreConfigured}
 use Rattle.claim_laws.specs.Reopened.{IsReopened}
 use Rattle.claim_laws.specs.World.{World}
-use Rattle.cells_world.specs.Opening.{IsDamage, IsOpenEnd, StandsStill}
+use Rattle.cells_world.specs.Opening.{AreInNextEpoch, FailedTwice, IsDamage, IsOpenEnd, KeepsFiles, ShowsSince}
 use Rattle.cells_world.specs.Follows.{AreEventsOff}
-use Rattle.cells_world.specs.OnWay.{AreGiven}
 use Rattle.cells_world.specs.Lines.{moment_behind}
-use Rattle.cells_world.specs.World.{IsOf, IsReached, StandsOrFailed}
+use Rattle.cells_world.specs.World.{HandsThese, IsOf, IsReached, LeavesTold}
 use Rattle.cells_world.specs.declared.fault.ClusterError.{ClusterError}
 use Rattle.cells_world.specs.declared.fault.Damage.{Damage}
 use Rattle.cells_world.specs.declared.fault.Damage.TheVariants.{NotAJournal as NoJournal, BadEntry as RefusedEntry, ConfigLacks as LacksCell, EpochsSpent as SpentEpochs}
@@ -42,10 +40,6 @@ use Rattle.cells_cli.specs.declared.status.Status.TheVariants.{End, Script, Read
 abbrev pub nothing_told : Telling
 nothing_told = record { items = []; broken = None }
 
--- the packets that a wire handed over between two moments are those of these events, in order
-abbrev pub HandsThese : {N : Type 0} → WireGhosts N → Registry → World → List Event → N → N → Type 0
-HandsThese n registry w events wire wire_now = IsTrue n.tells → (given : List WirePacket) × (n.handed wire_now ≡ n.handed wire ++ given) × AreGiven registry w given events
-
 -- Lines that were done from a world on: what they brought about, and what they left.
 pub record Done {D N : Type 0} (d : DiskGhosts D) (n : WireGhosts N) (shown : Option ℕ) (registry : Registry) (w : World) (items : List Item) (disk disk_then : D) (here there : Beside N) : Type 0 where
   pub events : List Event
@@ -55,26 +49,16 @@ pub record Done {D N : Type 0} (d : DiskGhosts D) (n : WireGhosts N) (shown : Op
   pub moments : LeavesOnly d disk disk_then (IsReached registry w events)
   pub stands : (img : Image) → IsImage (d.may_leave disk_then) img → IsOf registry img (run registry events w)
 
--- What the line leaves at which the cluster came to an end, behind this world: the steps and notes that are told of it are those of some first of its events, all
--- but the last at most, and with the steps told before they are a run of legal ones; the packets of its events are those that the wire handed over; at each
--- moment the files stood for a world that first events lead to, and at the end for the one behind the steps that are told, or, where the disk's count of faults
--- rose in this line, behind one event more.
+-- What the line leaves at which the cluster came to an end, behind this world and the steps told before: the steps and notes that are told of it are those of some
+-- first of its events, all but the last at most, and with the steps told before they are a run of legal ones.
 pub record BreaksBehind {D N : Type 0} (d : DiskGhosts D) (n : WireGhosts N) (shown : Option ℕ) (registry : Registry) (start : ClaimMap) (w : World) (before : List Transition) (broken : Broken) (disk disk_now : D) (here : Beside N) (wire_now : N) : Type 0 where
   pub clock : ℕ
   pub read : IsShown shown clock
   pub events : List Event
   pub off : AreEventsOff w (moment_behind here.waited clock) broken.line events
-  pub told : List Event
-  pub more : List Event
-  pub cut : told ++ more ≡ events
-  pub few : length more ≤ 1
-  pub trace : (run registry told w).trace ≡ before ++ broken.steps
-  pub notes : (run registry told w).notes ≡ w.notes ++ broken.notes
-  pub legal : IsRun registry start [] 0 (run registry told w).handed (before ++ broken.steps)
-  pub replayed : replay start (before ++ broken.steps) ≡ (run registry told w).claims
-  pub handed : HandsThese n registry w events here.wire wire_now
-  pub moments : LeavesOnly d disk disk_now (IsReached registry w events)
-  pub stands : StandsOrFailed d registry (run registry told w) (run registry events w) disk disk_now
+  pub leaves : LeavesTold d n registry w events (before ++ broken.steps) (w.notes ++ broken.notes) disk disk_now here.wire wire_now
+  pub legal : IsRun registry start [] 0 (run registry leaves.told w).handed (before ++ broken.steps)
+  pub replayed : replay start (before ++ broken.steps) ≡ (run registry leaves.told w).claims
 
 -- nothing came behind: the disk and the wire are as they were
 abbrev pub EndsThere : {D N : Type 0} → D → D → N → N → Type 0
@@ -100,14 +84,15 @@ LeftBehind d n shown registry start w before None last disk disk_now here wire_n
 abbrev pub at_opening : {N : Type 0} → N → Beside N
 at_opening wire = record { wire = wire; armed = []; waited = 0 }
 
--- The transitions that are told are a run of legal steps from the claim map of a world that the files stood for: every node was opened again, with nothing
--- drawn, and then came the events of the lines, in order; each line's answer, steps and notes are what its events bring. The packets of the events are those that
+-- The transitions that are told are a run of legal steps from the claim map of a world that the files stood for: every node was opened again, each
+-- cell in its next epoch with nothing drawn, and then came the events of the lines, in order; each line's answer, steps and notes are what its events bring. The packets of the events are those that
 -- the wire handed over. At each moment since the files were opened they stood for a world that first events lead to, and behind the last line that was
 -- answered and told for the one behind them all. Behind that came nothing, where the run ended between two lines; or the next line that was wanted, which was
 -- answered and could not be told, or at which the cluster came to an end.
-pub record Traces {D N : Type 0} (d : DiskGhosts D) (n : WireGhosts N) (shown : Option ℕ) (registry : Registry) (tells : Bool) (wanted : List Numbered) (w : World) (told : Telling) (disk_open disk_now : D) (wire wire_now : N) (status : Status) : Type 0 where
+pub record Traces {D N : Type 0} (d : DiskGhosts D) (n : WireGhosts N) (shown : Option ℕ) (registry : Registry) (tells : Bool) (wanted : List Numbered) (w : World) (told : Telling) (disk disk_open disk_now : D) (wire wire_now : N) (status : Status) : Type 0 where
   pub opened : World
   pub again : IsReopened w opened
+  pub epochs : AreInNextEpoch d disk disk_open registry w opened
   -- each cell of the configuration has an agent, and no other has one
   pub agents : (cell : ℕ) → IsSome (cell_of registry cell) → IsSome (map.get opened.agents cell)
   pub fresh : (cell : ℕ) (a : Agent) → map.get opened.agents cell ≡ Some a → IsSome (cell_of registry cell) × (a.drawn ≡ 0)
@@ -124,28 +109,38 @@ pub record Traces {D N : Type 0} (d : DiskGhosts D) (n : WireGhosts N) (shown : 
   pub next : IsTrue tells → AreFirst (numbered told.items ++ last) wanted
   pub between : IsBetween status → EndsThere disk_then disk_now there.wire wire_now
 
--- So it is of a run that got so far that its nodes were opened: of one that came to the end of the script or to a line that is refused, or told anything. Where a
--- file shows damage nothing is told.
-abbrev pub WhereOpened : Status → Telling → Type 0 → Type 0
-WhereOpened End told T = T
-WhereOpened (Script line) told T = T
-WhereOpened (NotAJournal file at) told T = told ≡ nothing_told
-WhereOpened (BadEntry file index) told T = told ≡ nothing_told
-WhereOpened (ConfigLacks cell) told T = told ≡ nothing_told
-WhereOpened (EpochsSpent cell) told T = told ≡ nothing_told
-WhereOpened other told T = (told ≡ nothing_told) ⊎ T
+-- The files were not all opened: nothing is told, the disk is as the opening left it, and nothing came of the wire. A disk fault is that of a file whose opening
+-- failed twice.
+pub record WasNotOpened {D N : Type 0} (d : DiskGhosts D) (told : Telling) (disk disk_open disk_now : D) (wire wire_now : N) (status : Status) : Type 0 where
+  pub none : told ≡ nothing_told
+  pub ends : EndsThere disk_open disk_now wire wire_now
+  pub twice : (file : ℕ) → status ≡ DiskFault file → FailedTwice d file disk disk_open
 
--- What a run brings about of which this is told: where the disk tells its content, and its count of faults stood still until the files were opened, the
--- transitions told are such a run, from any world in order that the files stood for.
+-- They were opened. Where a fault of the disk ended the run it did so in a line, of which is told what was done. Where the disk tells its content, the transitions
+-- told are such a run, from any world in order that the files stood for.
+pub record WasOpened {D N : Type 0} (d : DiskGhosts D) (n : WireGhosts N) (shown : Option ℕ) (registry : Registry) (tells : Bool) (wanted : List Numbered) (told : Telling) (disk disk_open disk_now : D) (wire wire_now : N) (status : Status) : Type 0 where
+  pub fails : (file : ℕ) → status ≡ DiskFault file → (broken : Broken) × (told.broken ≡ Some broken) × FailedAt d file disk_open disk_now
+  pub traces : IsTrue d.tells → (start : ClaimMap) (world : World) → IsInOrder registry start world → AreConfigured registry world → IsOf registry (d.seen disk) world →
+      Traces d n shown registry tells wanted world told disk disk_open disk_now wire wire_now status
+
+-- They were opened in each run that came to the end of the script or to a line that is refused, and in none that ended with damage.
+abbrev pub WhereOpened : Status → Type 0 → Type 0 → Type 0
+WhereOpened End NotOpened Opened = Opened
+WhereOpened (Script line) NotOpened Opened = Opened
+WhereOpened (NotAJournal file at) NotOpened Opened = NotOpened
+WhereOpened (BadEntry file index) NotOpened Opened = NotOpened
+WhereOpened (ConfigLacks cell) NotOpened Opened = NotOpened
+WhereOpened (EpochsSpent cell) NotOpened Opened = NotOpened
+WhereOpened other NotOpened Opened = NotOpened ⊎ Opened
+
+-- What a run brings about of which this is told. Until the files were opened, or the run ended without, they stood at each moment for what they might have stood
+-- for at its start, where cells may be in later epochs.
 pub record BringsAbout {D N : Type 0} (d : DiskGhosts D) (n : WireGhosts N) (shown : Option ℕ) (registry : Registry) (tells : Bool) (wanted : List Numbered) (told : Telling) (disk disk_now : D) (wire wire_now : N) (status : Status) : Type 0 where
   -- the disk when the files were opened, or when the run ended without
   pub disk_open : D
   pub opened_first : (d.faults disk ≤ d.faults disk_open) × (d.faults disk_open ≤ d.faults disk_now)
-  -- where a fault of the disk ended the run in a line, what was done of this line is told, and the count rose since
-  pub fails : (file : ℕ) → status ≡ DiskFault file → (told ≡ nothing_told) ⊎ ((broken : Broken) × (told.broken ≡ Some broken) × Rose (d.faults disk_open) (d.faults disk_now))
-  pub traces : IsTrue d.tells → StandsStill d disk disk_open → (start : ClaimMap) (world : World) →
-      IsInOrder registry start world → AreConfigured registry world → IsOf registry (d.seen disk) world →
-      WhereOpened status told (Traces d n shown registry tells wanted world told disk_open disk_now wire wire_now status)
+  pub keeps : KeepsFiles d registry disk disk_open
+  pub went : WhereOpened status (WasNotOpened d told disk disk_open disk_now wire wire_now status) (WasOpened d n shown registry tells wanted told disk disk_open disk_now wire wire_now status)
 
 -- What a run comes to: what is told of its lines and written, and what it brought about.
 pub record Ups {S W D N : Type 0} (s : SourceGhosts S) (w : SinkGhosts W) (d : DiskGhosts D) (n : WireGhosts N) (shown : Option ℕ) (registry : Registry) (script : S) (out out_now : W) (disk disk_now : D) (wire wire_now : N) (status : Status) : Type 0 where
@@ -172,9 +167,9 @@ EndsUpAt script left End = (left ≡ []) × (line_refused 0 (script_lines_of scr
 EndsUpAt script left (Script line) = line_refused 0 (script_lines_of script) ≡ Some line
 EndsUpAt script left other = Unit {0}
 
--- what a read gave of the files at the start shows the damage that is named, where the disk tells its content and its count of faults stood still
+-- what a read gives of the files at the end shows the damage that is named, and, where the disk's count of faults stood still, so does what it gave at the start
 abbrev pub ShowsDamage : {D : Type 0} → DiskGhosts D → Registry → D → D → ℕ → Damage → Type 0
-ShowsDamage d registry disk disk_now file damage = IsTrue d.tells → StandsStill d disk disk_now → IsDamage registry (d.seen disk) file damage
+ShowsDamage d registry disk disk_now file damage = ShowsSince d (λ img. IsDamage registry img file damage) disk disk_now
 
 abbrev pub IsDamaged : {D : Type 0} → DiskGhosts D → Registry → D → D → Status → Type 0
 IsDamaged d registry disk disk_now (NotAJournal file at) = ShowsDamage d registry disk disk_now file (NoJournal at)

@@ -95,7 +95,7 @@ const PLAIN: &str = "replay";
 
 const REGISTRY: &str = "replay --registry";
 
-pub fn source(alloc: Global, bytes: &[u8]) -> Result<BytesSource, NoMemory> {
+pub(crate) fn source(alloc: Global, bytes: &[u8]) -> Result<BytesSource, NoMemory> {
     Ok(BytesSource::new(Text::from_slice(alloc, bytes)?))
 }
 
@@ -112,7 +112,7 @@ fn disk_of(alloc: Global) -> Result<MemoryDisk, NoMemory> {
 }
 
 /// How a run of these words ends, and what it writes. Nothing befalls its wire.
-pub fn run_over<D: Disk>(
+pub(crate) fn run_over<D: Disk>(
     alloc: Global,
     words: &str,
     mut config: BytesSource,

@@ -155,7 +155,9 @@ pub struct SystemClock<'a, R: rt::Clock> {
 }
 
 impl<'a, R: rt::Clock> SystemClock<'a, R> {
-    pub fn new(rt: &'a R) -> Self {
+    pub fn new(rt: &'a R) -> Self
+        ensures { result.rt.now ≡ rt.now }
+    {
         SystemClock { rt }
     }
 }

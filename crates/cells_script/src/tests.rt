@@ -24,138 +24,126 @@ fn reads<R: AllocGlobal + Abort>(rt: &R, line: &str, wanted: Line) -> Result<(),
     Ok(())
 }
 
-// The lines of an ordinary day, and those of an organization that is made with its first group.
 #[test]
-fn reads_what_is_created(rt: HostRuntime) -> Result<(), Fail> {
+fn reads_the_making_of_an_organization(rt: HostRuntime) -> Result<(), Fail> {
     let alloc = rt.alloc();
     let (cell, name) = (1, text(alloc, "acme")?);
-    reads(
-        &rt,
-        "create 1 organization acme",
-        Line::CreateOrganization { cell, name },
-    )?;
+    let line = "create 1 organization acme";
+    reads(&rt, line, Line::CreateOrganization { cell, name })?;
     let (name, organization) = (text(alloc, "Alice")?, text(alloc, "acme")?);
-    reads(
-        &rt,
-        "create 1 user Alice acme",
-        Line::CreateUser {
-            cell,
-            name,
-            organization,
-        },
-    )?;
+    let user = Line::CreateUser {
+        cell,
+        name,
+        organization,
+    };
+    reads(&rt, "create 1 user Alice acme", user)?;
     let (name, organization) = (text(alloc, "acme")?, text(alloc, "one")?);
-    reads(
-        &rt,
-        "create 1 group  acme   one",
-        Line::CreateTopGroup {
-            cell,
-            name,
-            organization,
-        },
-    )?;
-    let route = text(alloc, "acme/sub")?;
-    reads(
-        &rt,
-        "create 1 group acme/sub",
-        Line::CreateGroup { cell, route },
-    )?;
-    let route = text(alloc, "acme/app")?;
-    reads(
-        &rt,
-        "create 1 project acme/app",
-        Line::CreateProject { cell, route },
-    )?;
-    let (user, value) = (text(alloc, "alice")?, text(alloc, "aa")?);
-    reads(
-        &rt,
-        "create 1 key alice aa",
-        Line::CreateKey { cell, user, value },
-    )?;
-    let (user, value) = (text(alloc, "alice")?, text(alloc, "Alice@Example.com")?);
-    let line = "create 1 address alice Alice@Example.com";
-    reads(&rt, line, Line::CreateAddress { cell, user, value })?;
-    let (route, value) = (text(alloc, "acme/app")?, text(alloc, "docs.acme.example")?);
-    let line = "create 999 domain acme/app docs.acme.example";
-    reads(
-        &rt,
-        line,
-        Line::CreateDomain {
-            cell: 999,
-            route,
-            value,
-        },
-    )?;
+    let group = Line::CreateTopGroup {
+        cell,
+        name,
+        organization,
+    };
+    reads(&rt, "create 1 group  acme   one", group)?;
     Ok(())
 }
 
 #[test]
-fn reads_what_is_changed_and_asked(rt: HostRuntime) -> Result<(), Fail> {
+fn reads_what_is_created_in_it(rt: HostRuntime) -> Result<(), Fail> {
+    let alloc = rt.alloc();
+    let (cell, route) = (1, text(alloc, "acme/sub")?);
+    let line = "create 1 group acme/sub";
+    reads(&rt, line, Line::CreateGroup { cell, route })?;
+    let route = text(alloc, "acme/app")?;
+    let line = "create 1 project acme/app";
+    reads(&rt, line, Line::CreateProject { cell, route })?;
+    let (user, value) = (text(alloc, "alice")?, text(alloc, "aa")?);
+    let line = "create 1 key alice aa";
+    reads(&rt, line, Line::CreateKey { cell, user, value })?;
+    let (user, value) = (text(alloc, "alice")?, text(alloc, "Alice@Example.com")?);
+    let line = "create 1 address alice Alice@Example.com";
+    reads(&rt, line, Line::CreateAddress { cell, user, value })?;
+    let (cell, route) = (999, text(alloc, "acme/app")?);
+    let value = text(alloc, "docs.acme.example")?;
+    let line = "create 999 domain acme/app docs.acme.example";
+    reads(&rt, line, Line::CreateDomain { cell, route, value })?;
+    Ok(())
+}
+
+#[test]
+fn reads_what_is_changed(rt: HostRuntime) -> Result<(), Fail> {
     let alloc = rt.alloc();
     let (cell, bucket) = (1, Bucket::Route);
     let (value, name) = (text(alloc, "acme")?, text(alloc, "acme-corp")?);
-    reads(
-        &rt,
-        "rename 1 route acme acme-corp",
-        Line::Rename {
-            cell,
-            bucket,
-            value,
-            name,
-        },
-    )?;
+    let rename = Line::Rename {
+        cell,
+        bucket,
+        value,
+        name,
+    };
+    reads(&rt, "rename 1 route acme acme-corp", rename)?;
     let value = text(alloc, "acme")?;
-    reads(
-        &rt,
-        "remove 1 route acme",
-        Line::Remove {
-            cell,
-            bucket,
-            value,
-        },
-    )?;
+    let remove = Line::Remove {
+        cell,
+        bucket,
+        value,
+    };
+    reads(&rt, "remove 1 route acme", remove)?;
+    Ok(())
+}
+
+#[test]
+fn reads_what_is_asked(rt: HostRuntime) -> Result<(), Fail> {
+    let alloc = rt.alloc();
     let sought = text(alloc, "cell-2-abc")?;
-    reads(
-        &rt,
-        "classify session cell-2-abc",
-        Line::ClassifySession { text: sought },
-    )?;
+    let line = "classify session cell-2-abc";
+    reads(&rt, line, Line::ClassifySession { text: sought })?;
     let sought = text(alloc, "acme/app")?;
-    reads(
-        &rt,
-        "classify path acme/app",
-        Line::ClassifyPath { text: sought },
-    )?;
-    let value = text(alloc, "Acme")?;
-    reads(
-        &rt,
-        "classify claim route Acme",
-        Line::ClassifyClaim { bucket, value },
-    )?;
+    let line = "classify path acme/app";
+    reads(&rt, line, Line::ClassifyPath { text: sought })?;
+    let (bucket, value) = (Bucket::Route, text(alloc, "Acme")?);
+    let line = "classify claim route Acme";
+    reads(&rt, line, Line::ClassifyClaim { bucket, value })?;
+    Ok(())
+}
+
+#[test]
+fn reads_what_is_routed(rt: HostRuntime) -> Result<(), Fail> {
+    let alloc = rt.alloc();
     let (method, target) = (text(alloc, "GET")?, text(alloc, "/acme/app/-/issues")?);
-    let line = "route GET /acme/app/-/issues";
-    reads(
-        &rt,
-        line,
-        Line::Route {
-            method,
-            target,
-            cookie: None,
-        },
-    )?;
+    let plain = Line::Route {
+        method,
+        target,
+        cookie: None,
+    };
+    reads(&rt, "route GET /acme/app/-/issues", plain)?;
     let (method, target) = (text(alloc, "GET")?, text(alloc, "/-/profile")?);
     let cookie = Some(text(alloc, "a=b;  _gitlab_session=cell-9-abc")?);
+    let with_cookie = Line::Route {
+        method,
+        target,
+        cookie,
+    };
     let line = "route  GET /-/profile   a=b;  _gitlab_session=cell-9-abc";
-    reads(
-        &rt,
-        line,
-        Line::Route {
-            method,
-            target,
-            cookie,
-        },
-    )?;
+    reads(&rt, line, with_cookie)?;
     Ok(())
+}
+
+fn reads_all<R: AllocGlobal + Abort>(rt: &R, rows: &[(&str, Line)]) -> Result<(), NoMemory> {
+    for (line, wanted) in rows {
+        match Line::read(rt.alloc(), line.as_bytes())? {
+            Some(found) => assert!(rt; found == *wanted, "{line}"),
+            None => assert!(rt; false, "{line}"),
+        }
+    }
+    Ok(())
+}
+
+fn range(number: Option<u64>) -> Line {
+    Line::Range { cell: 1, number }
+}
+
+fn verify(cell: u16, span: Option<Span>) -> Line {
+    Line::Verify { cell, span }
 }
 
 #[test]
@@ -166,35 +154,14 @@ fn reads_numbers(rt: HostRuntime) -> Result<(), Fail> {
         last: 5,
     };
     let rows = [
-        (
-            "range 1",
-            Line::Range {
-                cell: 1,
-                number: None,
-            },
-        ),
+        ("range 1", range(None)),
         (
             "range 1 18446744073709551615",
-            Line::Range {
-                cell: 1,
-                number: Some(18_446_744_073_709_551_615),
-            },
+            range(Some(18_446_744_073_709_551_615)),
         ),
         ("reconcile 10", Line::Reconcile { cell: 10 }),
-        (
-            "verify 3",
-            Line::Verify {
-                cell: 3,
-                span: None,
-            },
-        ),
-        (
-            "verify 1 route 5 5",
-            Line::Verify {
-                cell: 1,
-                span: Some(span),
-            },
-        ),
+        ("verify 3", verify(3, None)),
+        ("verify 1 route 5 5", verify(1, Some(span))),
         ("classify first", Line::ClassifyFirst),
         ("classify cell 9", Line::ClassifyCell { cell: 9 }),
         ("lose 0", Line::Lose { number: 0 }),
@@ -208,60 +175,56 @@ fn reads_numbers(rt: HostRuntime) -> Result<(), Fail> {
         ("restart service", Line::RestartService),
         ("restart 999", Line::Restart { cell: 999 }),
     ];
-    for (line, wanted) in &rows {
-        match Line::read(rt.alloc(), line.as_bytes())? {
-            Some(found) => assert!(rt; found == *wanted, "{line}"),
-            None => assert!(rt; false, "{line}"),
-        }
-    }
+    reads_all(&rt, &rows)?;
     Ok(())
 }
 
+const NO_LINES: [&str; 40] = [
+    "",
+    "# range 1",
+    " range 1",
+    "range 1 ",
+    "range\t1",
+    "range 1\r",
+    "range 1 \u{e9}",
+    "jump",
+    "range",
+    "Range 1",
+    "range 0",
+    "range 01",
+    "range 1000",
+    "range 65537",
+    "range +1",
+    "range -1",
+    "range 1 0",
+    "range 1 18446744073709551616",
+    "range 1 2 3",
+    "create 1 key alice",
+    "create 1 organization acme one",
+    "create 1 team acme",
+    "create 1 domain acme/app docs.acme.example more",
+    "rename 1 routes acme beta",
+    "rename 1 route acme",
+    "remove 1 route acme beta",
+    "verify 1 route",
+    "verify 1 route 5 4",
+    "verify 1 route 0 4",
+    "verify 1 route 1 9223372036854775808",
+    "classify",
+    "classify last",
+    "classify first 1",
+    "classify cell 0",
+    "classify claim rout acme",
+    "route GET",
+    "lose",
+    "lose 4294967296",
+    "wait 00",
+    "restart Service",
+];
+
 #[test]
 fn refuses_what_is_no_line(rt: HostRuntime) -> Result<(), Fail> {
-    let rows = [
-        "",
-        "# range 1",
-        " range 1",
-        "range 1 ",
-        "range\t1",
-        "range 1\r",
-        "range 1 \u{e9}",
-        "jump",
-        "range",
-        "Range 1",
-        "range 0",
-        "range 01",
-        "range 1000",
-        "range 65537",
-        "range +1",
-        "range -1",
-        "range 1 0",
-        "range 1 18446744073709551616",
-        "range 1 2 3",
-        "create 1 key alice",
-        "create 1 organization acme one",
-        "create 1 team acme",
-        "create 1 domain acme/app docs.acme.example more",
-        "rename 1 routes acme beta",
-        "rename 1 route acme",
-        "remove 1 route acme beta",
-        "verify 1 route",
-        "verify 1 route 5 4",
-        "verify 1 route 0 4",
-        "verify 1 route 1 9223372036854775808",
-        "classify",
-        "classify last",
-        "classify first 1",
-        "classify cell 0",
-        "classify claim rout acme",
-        "route GET",
-        "lose",
-        "lose 4294967296",
-        "wait 00",
-        "restart Service",
-    ];
-    for line in rows {
+    for line in NO_LINES {
         let found = Line::read(rt.alloc(), line.as_bytes())?;
         assert!(rt; found.is_none(), "{line}");
     }
@@ -471,6 +434,13 @@ fn happens<R: AllocGlobal + Abort>(
     Ok(())
 }
 
+fn no_operations(alloc: Global) -> Operations {
+    Operations {
+        creates: Creates::new(alloc),
+        destroys: Keys::new(alloc),
+    }
+}
+
 fn asks<R: AllocGlobal + Abort>(
     rt: &R,
     question: Question,
@@ -481,7 +451,7 @@ fn asks<R: AllocGlobal + Abort>(
 }
 
 #[test]
-fn tells_transitions_of_leases(rt: HostRuntime) -> Result<(), Fail> {
+fn tells_what_begins(rt: HostRuntime) -> Result<(), Fail> {
     let alloc = rt.alloc();
     let range = Range {
         cell: 1,
@@ -489,60 +459,38 @@ fn tells_transitions_of_leases(rt: HostRuntime) -> Result<(), Fail> {
         low: 1,
         high: 1_000,
     };
-    happens(
-        &rt,
-        1,
-        Step::Ranged { range },
-        "  take 1: ranged 1 1 1 1000",
-    )?;
-    let ops = Operations {
-        creates: Creates::new(alloc),
-        destroys: Keys::new(alloc),
-    };
-    let leased = Step::Leased { lease: FIRST, ops };
-    happens(
-        &rt,
-        3,
-        leased,
-        "  take 3: leased 00010000-0001-8000-8000-000000000001",
-    )?;
-    let recorded = Step::Recorded {
-        lease: FIRST,
-        change: Change::Remove { id: 1 },
-    };
-    happens(
-        &rt,
-        4,
-        recorded,
-        "  take 4: recorded 00010000-0001-8000-8000-000000000001",
-    )?;
-    let committed = Step::Committed { lease: FIRST };
-    happens(
-        &rt,
-        5,
-        committed,
-        "  take 5: committed 00010000-0001-8000-8000-000000000001",
-    )?;
-    let rolled_back = Step::RolledBack { lease: FIRST };
-    happens(
-        &rt,
-        8,
-        rolled_back,
-        "  take 8: rolled back 00010000-0001-8000-8000-000000000001",
-    )?;
-    let denial = Denial::Owned {
-        key: key(alloc, Bucket::Route, "acme")?,
-        cell: 1,
-    };
+    let ranged = "  take 1: ranged 1 1 1 1000";
+    happens(&rt, 1, Step::Ranged { range }, ranged)?;
+    let (lease, ops) = (FIRST, no_operations(alloc));
+    let leased = "  take 3: leased 00010000-0001-8000-8000-000000000001";
+    happens(&rt, 3, Step::Leased { lease, ops }, leased)?;
+    let key = key(alloc, Bucket::Route, "acme")?;
+    let (lease, denial) = (OTHER, Denial::Owned { key, cell: 1 });
     let denied = "  take 17: denied 00020000-0001-8000-8000-000000000022 owned route:acme 1";
+    happens(&rt, 17, Step::Denied { lease, denial }, denied)?;
+    Ok(())
+}
+
+#[test]
+fn tells_how_leases_go_on(rt: HostRuntime) -> Result<(), Fail> {
+    let (lease, change) = (FIRST, Change::Remove { id: 1 });
+    let recorded = "  take 4: recorded 00010000-0001-8000-8000-000000000001";
+    happens(&rt, 4, Step::Recorded { lease, change }, recorded)?;
+    let committed = "  take 5: committed 00010000-0001-8000-8000-000000000001";
+    happens(&rt, 5, Step::Committed { lease }, committed)?;
+    let rolled_back = "  take 8: rolled back 00010000-0001-8000-8000-000000000001";
+    happens(&rt, 8, Step::RolledBack { lease }, rolled_back)?;
+    Ok(())
+}
+
+#[test]
+fn tells_who_is_served(rt: HostRuntime) -> Result<(), Fail> {
+    let (question, cell) = (Question::First, 1);
     happens(
         &rt,
-        17,
-        Step::Denied {
-            lease: OTHER,
-            denial,
-        },
-        denied,
+        9,
+        Step::Served { question, cell },
+        "  take 9: served first 1",
     )?;
     Ok(())
 }
@@ -585,11 +533,6 @@ fn tells_transitions_of_questions(rt: HostRuntime) -> Result<(), Fail> {
         Class::Cell { id: 1 },
         "  take 15: answered claim route:acme 1",
     )?;
-    let served = Step::Served {
-        question: Question::First,
-        cell: 1,
-    };
-    happens(&rt, 9, served, "  take 9: served first 1")?;
     Ok(())
 }
 

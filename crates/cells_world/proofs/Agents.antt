@@ -15,29 +15,19 @@ use Rattle.disk_journal.specs.Moments.{Stays}
 use Rattle.disk_journal.proofs.Settled.{stays_on}
 use Rattle.claim_service.specs.Node.{service, keeper}
 use Rattle.claim_service.specs.declared.node.TopologyNode.{TopologyNode}
-use Rattle.cell_store.specs.Opening.{IsOpened}
 use Rattle.cell_store.specs.Store.{store}
 use Rattle.cell_store.specs.declared.store.CellStore.{CellStore}
 use Rattle.reconciler.specs.Agent.{IsReady as IsAgentReady}
 use Rattle.reconciler.specs.declared.agent.CellAgent.{CellAgent}
-use Rattle.cells_world.specs.Opening.{AreApart, AreNew, AreOpened, IsCellEnd, IsIdle, IsOneEnd, ShowsOfCell, StandsStill, StaysBeside}
+use Rattle.cells_world.specs.Opening.{AreApart, AreNew, AreOpenedFrom, IsCellEnd, IsIdOf, IsIdle, IsOneEnd, IsOpenedFrom, IsStoreAsBefore, Moves, ShowsOfCell, StandsStill, StaysBeside}
 use Rattle.cells_world.specs.Serving.{IsServing}
 use Rattle.cells_world.specs.declared.fault.ClusterError.{ClusterError}
 use Rattle.cells_world.specs.declared.fault.ClusterError.TheVariants.{DiskFailed, Memory, Damaged}
 use Rattle.cells_world.specs.declared.fault.Damage.{Damage}
 use Rattle.cells_world.specs.declared.fault.Damage.TheVariants.{NotAJournal, BadEntry, ConfigLacks, EpochsSpent}
+use Rattle.cells_world.proofs.Keeping.{before_same, moves_apart, moves_so, moves_still, stands_same}
+use Rattle.disk_journal.proofs.Moments.{CountsNow, OnlyNow}
 use Rattle.cells_world.proofs.Ready.{agent_on}
-
--- a file that reads the same stands for the same
-pub stands_same : {E S : Type 0} (f : Format E S) (from img : Image) (file : ℕ) (s : S) → img file ≡ from file → Stands f img file s → Stands f from file s
-stands_same f from img file s same is = record {
-  es = is.es;
-  has = record { bodies = subst (λ c. IsJournal c (map f.bytes is.es)) same is.has.bodies; entries = is.has.entries };
-  folds = is.folds;
-}
-
-pub opened_same : (cell : ℕ) (from img : Image) (s : CellStore) → img cell ≡ from cell → IsOpened cell img s → IsOpened cell from s
-opened_same cell from img s same is = record { before = is.before; stands = stands_same (store cell) from img cell is.before same is.stands; now = is.now }
 
 pub shows_same : (cell : ℕ) (from img : Image) (fault : Damage) → img cell ≡ from cell → ShowsOfCell cell img fault → ShowsOfCell cell from fault
 shows_same cell from img (NotAJournal at) same is = subst (λ c. IsRefused c at) same is
@@ -76,7 +66,7 @@ pub record AreSoFar {D : Type 0} (g : Ghosts D) (cells : List Cell) (old d : D) 
   pub order : map (λ (a : CellAgent). a.store.cell) agents ≡ map (λ (c : Cell). c.id) (take i cells)
   pub placed : (a : CellAgent) → Contains agents a → (k : ℕ) × (k < i) × (slice_get (map (λ (c : Cell). c.id) cells) k ≡ Some a.store.cell)
   pub are_new : AreNew g d agents
-  pub opened : IsTrue g.tells → StandsStill g old d → AreOpened (g.seen old) agents
+  pub opened : AreOpenedFrom g old d agents
   pub others : IsTrue g.tells → (q : ℕ) → ((a : CellAgent) → Contains agents a → a.store.cell ≢ q) → Stays g q old d
   pub later : g.faults old ≤ g.faults d
 
@@ -85,7 +75,7 @@ none_so_far g cells d = record {
   order = refl;
   placed = λ a there. absurd (nowhere a there);
   are_new = record { ready = λ a there. absurd (nowhere a there); idle = λ a there. absurd (nowhere a there) };
-  opened = λ tells still a there. absurd (nowhere a there);
+  opened = λ a there. absurd (nowhere a there);
   others = λ tells q beside. record { reads = refl; leaves = λ x is. is };
   later = omega arith;
 }
@@ -131,14 +121,16 @@ module _ {D : Type 0} (g : Ghosts D) (cells : List Cell) (old d : D) (i : ℕ) (
     ends_here : (error : ClusterError) → IsCellEnd {T = CellAgent} g c.id d e (Err error) → IsCellEnd {T = CellStore} g c.id old e (Err error)
     ends_here (DiskFailed file) ends = (ends.0, ((let rose = ends.1.0 in let on = so_far.later in omega (arith, rose, on)), ends.1.1))
     ends_here Memory ends = tt
-    ends_here (Damaged file fault) ends = (ends.0, λ tells still. shows_same c.id (g.seen old) (g.seen d) fault (unread tells) (ends.1 tells (still_after still)))
+    ends_here (Damaged file fault) ends = (ends.0, λ tells. (let shows = ends.1 tells in (shows.0, λ still. shows_same c.id (g.seen old) (g.seen d) fault (unread tells) (shows.1 (still_after still)))))
 
     pub ends_then : (error : ClusterError) → IsCellEnd {T = CellAgent} g c.id d e (Err error) → IsOneEnd g cells old e error
     ends_then error ends = (c, among, ends_here error ends)
 
-    module _ (a : CellAgent) (same : a.store.cell ≡ c.id) (ready : IsAgentReady g e a) (idle : IsIdle a) (opened : IsTrue g.tells → StandsStill g d e → IsOpened c.id (g.seen d) a.store) where
-      opened_here : IsTrue g.tells → StandsStill g old e → IsOpened a.store.cell (g.seen old) a.store
-      opened_here tells still = subst (λ q. IsOpened q (g.seen old) a.store) (sym same) (opened_same c.id (g.seen old) (g.seen d) a.store (unread tells) (opened tells (still_after still)))
+    module _ (a : CellAgent) (same : a.store.cell ≡ c.id) (ready : IsAgentReady g e a) (idle : IsIdle a) (opened : IsOpenedFrom g c.id d e a.store) where
+      opened_here : IsOpenedFrom g a.store.cell old e a.store
+      opened_here tells before stands =
+          let it = opened tells before (stands_same (store c.id) (g.seen d) (g.seen old) c.id before (sym (unread tells)) (subst (λ q. Stands (store q) (g.seen old) q before) same stands)) in
+          (it.0, (it.1.0, it.1.1, λ still. it.1.2 (still_after still)), it.2)
 
       pub one_more : AreSoFar g cells old e (i + 1) (agents ++ a ∷ [])
       one_more = record {
@@ -160,12 +152,33 @@ module _ {D : Type 0} (g : Ghosts D) (cells : List Cell) (old d : D) (i : ℕ) (
               (λ (new_one : a ≡ b). subst (λ (x : CellAgent). IsIdle x) new_one idle)
               (Contains-push_cases agents a b there);
         };
-        opened = λ tells still b there. ⊎_elim
-            (λ (old_one : Contains agents b). so_far.opened tells (still_before still) b old_one)
-            (λ (new_one : a ≡ b). subst (λ (x : CellAgent). IsOpened x.store.cell (g.seen old) x.store) new_one (opened_here tells still))
+        opened = λ b there. ⊎_elim
+            (λ (old_one : Contains agents b). λ tells before stands. (let it = so_far.opened b old_one tells before stands in (it.0, (it.1.0, it.1.1, λ still. it.1.2 (still_before still)), it.2)))
+            (λ (new_one : a ≡ b). subst (λ (x : CellAgent). IsOpenedFrom g x.store.cell old e x.store) new_one opened_here)
             (Contains-push_cases agents a b there);
         others = λ tells q beside. stays_on g q old d e
             (so_far.others tells q (λ b there. beside b (Contains-append_left agents (a ∷ []) b there)))
             (touches.elsewhere tells q (λ own. beside a (Contains-push agents a) (same ∙ sym own)));
         later = later_then;
       }
+
+-- the ids of the first i cells
+abbrev pub IsIdBefore : List Cell → ℕ → ℕ → Type 0
+IsIdBefore cells i q = (k : ℕ) × (k < i) × (slice_get (map (λ (c : Cell). c.id) cells) k ≡ Some q)
+
+-- the files of cells went on one after another
+module _ {D : Type 0} (g : Ghosts D) (cells : List Cell) (old d : D) (i : ℕ) where
+  pub moved_none : OnlyNow g → Moves g (IsIdBefore cells 0) (IsStoreAsBefore 2) d d
+  moved_none only_now = moves_still g d (IsIdBefore cells 0) (IsStoreAsBefore 2) only_now
+
+  pub moved_more : CountsNow g → AreApart cells → (c : Cell) → i < length cells → c ≡ get_or cells i c → (e : D) → Moves g (IsIdBefore cells i) (IsStoreAsBefore 2) old d → Moves g (λ q. q ≡ c.id) (IsStoreAsBefore 2) d e → Moves g (IsIdBefore cells (i + 1)) (IsStoreAsBefore 2) old e
+  moved_more counts_now apart c within is e =
+      let here : slice_get (map (λ (x : Cell). x.id) cells) i ≡ Some c.id = slice_get-map (λ (x : Cell). x.id) cells i ∙ ap (option_map (λ (x : Cell). x.id)) (slice_get_read cells (length cells) i c refl within is) in
+      moves_apart g counts_now old d e (IsIdBefore cells i) (λ q. q ≡ c.id) (IsIdBefore cells (i + 1)) (IsStoreAsBefore 2) (λ q from mid img now was same before. before_same q from mid now img was same 2 before)
+      (λ q before own. (let one = apart before.0 i q before.2 (here ∙ ap Some (sym own)) in let less = before.1 in omega (arith, less, one)))
+      (λ q before. (before.0, (let less = before.1 in omega (arith, less)), before.2))
+      (λ q own. (i, omega arith, here ∙ ap Some (sym own)))
+
+  pub moved_all : Moves g (IsIdBefore cells i) (IsStoreAsBefore 2) old d → Moves g (IsIdOf cells) (IsStoreAsBefore 2) old d
+  moved_all = moves_so g old d (IsIdBefore cells i) (IsIdOf cells) (IsStoreAsBefore 2) (IsStoreAsBefore 2)
+      (λ q from img went. (of_map (λ (c : Cell). c.id) cells q (at_place (map (λ (c : Cell). c.id) cells) went.0.0 q went.0.2), went.1))

@@ -7,6 +7,7 @@ pub mod Ready
 pub mod Places
 pub mod Asked
 pub mod Sending
+pub mod Keeping
 pub mod Openings
 pub mod Agents
 pub mod Configured

@@ -1,8 +1,11 @@
 -- Why a file was not opened, also where it was tried once more.
-use Rattle.std.proofs.Common.{◌≡◌, ◌≢◌, ℕ, ◌≤◌, IsTrue, refl, arith}
+use Rattle.std.proofs.Common.{◌≡◌, ◌≢◌, ℕ, ◌≤◌, IsTrue, refl, sym, subst, arith}
 use Rattle.std.specs.Prelude.{Err}
+use Rattle.disk_journal.specs.Disk.{Image}
+use Rattle.disk_journal.specs.Journal.{IsRefused}
+use Rattle.disk_journal.proofs.Reading.{no_journal}
 use Rattle.disk_journal.specs.declared.disk.Disk.{Ghosts}
-use Rattle.disk_journal.specs.Effects.{FailedAt}
+use Rattle.disk_journal.specs.Effects.{FailedAt, IsTrimmed}
 use Rattle.disk_journal.specs.Entries.{TouchesOnly}
 use Rattle.claim_map.specs.Registry.{Registry}
 use Rattle.claim_service.specs.Opening.{IsOpenFault as IsServiceFault}
@@ -10,12 +13,14 @@ use Rattle.claim_service.specs.declared.limits.TheConstants.{SERVICE_FILE}
 use Rattle.claim_service.specs.declared.node.TopologyNode.{TopologyNode}
 use Rattle.claim_service.specs.declared.opening.ServiceOpenFault.{ServiceOpenFault}
 use Rattle.claim_service.specs.declared.opening.ServiceOpenFault.TheVariants as of_service
-use Rattle.cell_store.specs.Opening.{IsOpenFault as IsCellFault}
+use Rattle.cell_store.specs.Opening.{IfRefused, IsOpenFault as IsCellFault, OpensUnwritten}
+use Rattle.cell_store.specs.Store.{store}
 use Rattle.cell_store.specs.declared.fault.CellOpenFault.{CellOpenFault}
 use Rattle.cell_store.specs.declared.fault.CellOpenFault.TheVariants as of_cell
 use Rattle.cell_store.specs.declared.store.CellStore.{CellStore}
 use Rattle.cells_world.specs.Faults.{fault_of_service_open, fault_of_cell_open}
-use Rattle.cells_world.specs.Opening.{FailsTwice, StandsStill, IsServiceEnd, IsCellEnd}
+use Rattle.cells_world.specs.Opening.{FailsTwice, StandsStill, IsServiceEnd, IsCellEnd, ShowsSince}
+use Rattle.cells_world.proofs.Keeping.{stands_on, trimmed_keeps}
 use Rattle.cells_world.specs.declared.fault.ClusterError.{ClusterError}
 use Rattle.cells_world.specs.declared.fault.ClusterError.TheVariants.{DiskFailed, Memory, Damaged}
 
@@ -23,36 +28,45 @@ use Rattle.cells_world.specs.declared.fault.ClusterError.TheVariants.{DiskFailed
 pub failed_once : {D : Type 0} (g : Ghosts D) (file : ℕ) (old mid new : D) → FailedAt g file old mid → TouchesOnly g file mid new → StandsStill g old new → ⊥
 failed_once g file old mid new failed later still = let rose = failed.0 in let on = later.counts.later in still (omega (arith, rose, on))
 
-module _ {D : Type 0} (g : Ghosts D) (registry : Registry) (old new : D) where
-  pub service_end : (fault : ServiceOpenFault) → (IsTrue g.tells → IsServiceFault registry (g.seen old) fault) → (fault ≡ of_service.Failed → FailedAt g SERVICE_FILE old new) → IsServiceEnd {T = TopologyNode} g registry old new (Err (fault_of_service_open fault))
-  service_end (of_service.NotAJournal at) shows failed = (refl, λ tells still. shows tells)
-  service_end (of_service.BadEntry index) shows failed = (refl, λ tells still. shows tells)
-  service_end (of_service.ConfigLacks cell) shows failed = (refl, λ tells still. shows tells)
-  service_end of_service.Failed shows failed = (refl, failed refl)
-  service_end of_service.Memory shows failed = tt
+-- what a file shows it still shows once what does not count is lost
+service_on : (registry : Registry) (from img : Image) → IsTrimmed SERVICE_FILE from img → (fault : ServiceOpenFault) → IsServiceFault registry from fault → IsServiceFault registry img fault
+service_on registry from img keeps (of_service.NotAJournal at) shows = subst (λ c. IsRefused c at) (sym (keeps.no_journal (λ bs of. no_journal (from SERVICE_FILE) at bs shows of) SERVICE_FILE refl)) shows
+service_on registry from img keeps (of_service.BadEntry index) shows = (shows.0, keeps.bodies shows.0 shows.1, shows.2)
+service_on registry from img keeps (of_service.ConfigLacks cell) shows = (shows.0, shows.1, record { bodies = keeps.bodies _ shows.2.bodies; entries = shows.2.entries }, shows.3, shows.4)
+service_on registry from img keeps of_service.Failed shows = tt
+service_on registry from img keeps of_service.Memory shows = tt
 
-  -- it had failed before
-  pub service_end_then : (fault : ServiceOpenFault) → (StandsStill g old new → ⊥) → (fault ≡ of_service.Failed → FailedAt g SERVICE_FILE old new) → IsServiceEnd {T = TopologyNode} g registry old new (Err (fault_of_service_open fault))
-  service_end_then (of_service.NotAJournal at) rose failed = (refl, λ tells still. absurd (rose still))
-  service_end_then (of_service.BadEntry index) rose failed = (refl, λ tells still. absurd (rose still))
-  service_end_then (of_service.ConfigLacks cell) rose failed = (refl, λ tells still. absurd (rose still))
-  service_end_then of_service.Failed rose failed = (refl, failed refl)
-  service_end_then of_service.Memory rose failed = tt
+cell_on : (cell : ℕ) (from img : Image) → IsTrimmed cell from img → (fault : CellOpenFault) → IsCellFault cell from fault → IsCellFault cell img fault
+cell_on cell from img keeps (of_cell.NotAJournal at) shows = subst (λ c. IsRefused c at) (sym (keeps.no_journal (λ bs of. no_journal (from cell) at bs shows of) cell refl)) shows
+cell_on cell from img keeps (of_cell.BadEntry index) shows = (shows.0, keeps.bodies shows.0 shows.1, shows.2)
+cell_on cell from img keeps of_cell.EpochsSpent shows = (shows.0, stands_on (store cell) from img cell shows.0 (trimmed_keeps cell from img keeps) shows.1, shows.2)
+cell_on cell from img keeps of_cell.Failed shows = tt
+cell_on cell from img keeps of_cell.Memory shows = tt
 
-module _ {D : Type 0} (g : Ghosts D) (cell : ℕ) (old new : D) where
-  pub cell_end : (fault : CellOpenFault) → (IsTrue g.tells → IsCellFault cell (g.seen old) fault) → (fault ≡ of_cell.Failed → FailedAt g cell old new) → IsCellEnd {T = CellStore} g cell old new (Err (fault_of_cell_open cell fault))
-  cell_end (of_cell.NotAJournal at) shows failed = (refl, λ tells still. shows tells)
-  cell_end (of_cell.BadEntry index) shows failed = (refl, λ tells still. shows tells)
-  cell_end of_cell.EpochsSpent shows failed = (refl, λ tells still. shows tells)
-  cell_end of_cell.Failed shows failed = (refl, failed refl)
-  cell_end of_cell.Memory shows failed = tt
+-- The last try began at this moment, and the first one at that.
+module _ {D : Type 0} (g : Ghosts D) (registry : Registry) (old mid new : D) (keeps : IsTrue g.tells → IsTrimmed SERVICE_FILE (g.seen mid) (g.seen new)) where
+  since : (fault : ServiceOpenFault) → (IsTrue g.tells → IsServiceFault registry (g.seen mid) fault) → (StandsStill g old new → g.seen mid ≡ g.seen old) → ShowsSince g (λ img. IsServiceFault registry img fault) old new
+  since fault shows first tells = (service_on registry (g.seen mid) (g.seen new) (keeps tells) fault (shows tells), λ still. subst (λ img. IsServiceFault registry img fault) (first still) (shows tells))
 
-  pub cell_end_then : (fault : CellOpenFault) → (StandsStill g old new → ⊥) → (fault ≡ of_cell.Failed → FailedAt g cell old new) → IsCellEnd {T = CellStore} g cell old new (Err (fault_of_cell_open cell fault))
-  cell_end_then (of_cell.NotAJournal at) rose failed = (refl, λ tells still. absurd (rose still))
-  cell_end_then (of_cell.BadEntry index) rose failed = (refl, λ tells still. absurd (rose still))
-  cell_end_then of_cell.EpochsSpent rose failed = (refl, λ tells still. absurd (rose still))
-  cell_end_then of_cell.Failed rose failed = (refl, failed refl)
-  cell_end_then of_cell.Memory rose failed = tt
+  pub service_end : (fault : ServiceOpenFault) → (IsTrue g.tells → IsServiceFault registry (g.seen mid) fault) → (StandsStill g old new → g.seen mid ≡ g.seen old) → (fault ≡ of_service.Failed → FailedAt g SERVICE_FILE old new) →
+      IsServiceEnd {T = TopologyNode} g registry old new (Err (fault_of_service_open fault))
+  service_end (of_service.NotAJournal at) shows first failed = (refl, since (of_service.NotAJournal at) shows first)
+  service_end (of_service.BadEntry index) shows first failed = (refl, since (of_service.BadEntry index) shows first)
+  service_end (of_service.ConfigLacks cell) shows first failed = (refl, since (of_service.ConfigLacks cell) shows first)
+  service_end of_service.Failed shows first failed = (refl, failed refl)
+  service_end of_service.Memory shows first failed = tt
+
+module _ {D : Type 0} (g : Ghosts D) (cell : ℕ) (old mid new : D) where
+  since_cell : (fault : CellOpenFault) → OpensUnwritten g cell mid new → (IsTrue g.tells → IsCellFault cell (g.seen mid) fault) → (StandsStill g old new → g.seen mid ≡ g.seen old) → ShowsSince g (λ img. IsCellFault cell img fault) old new
+  since_cell fault unwritten shows first tells = (cell_on cell (g.seen mid) (g.seen new) (unwritten.reads tells) fault (shows tells), λ still. subst (λ img. IsCellFault cell img fault) (first still) (shows tells))
+
+  pub cell_end : (fault : CellOpenFault) → IfRefused (Err fault) (OpensUnwritten g cell mid new) → (IsTrue g.tells → IsCellFault cell (g.seen mid) fault) → (StandsStill g old new → g.seen mid ≡ g.seen old) → (fault ≡ of_cell.Failed → FailedAt g cell old new) →
+      IsCellEnd {T = CellStore} g cell old new (Err (fault_of_cell_open cell fault))
+  cell_end (of_cell.NotAJournal at) unwritten shows first failed = (refl, since_cell (of_cell.NotAJournal at) unwritten shows first)
+  cell_end (of_cell.BadEntry index) unwritten shows first failed = (refl, since_cell (of_cell.BadEntry index) unwritten shows first)
+  cell_end of_cell.EpochsSpent unwritten shows first failed = (refl, since_cell of_cell.EpochsSpent unwritten shows first)
+  cell_end of_cell.Failed unwritten shows first failed = (refl, failed refl)
+  cell_end of_cell.Memory unwritten shows first failed = tt
 
 -- a failure after an earlier one
 pub failed_then : {D : Type 0} (g : Ghosts D) (file : ℕ) (old mid new : D) → FailedAt g file old mid → FailedAt g file mid new → FailedAt g file old new

@@ -1,6 +1,7 @@
 -- What each call on a cluster needs, and leaves where it is answered.
 use Rattle.std.specs.Prelude.{◌≡◌, ◌≢◌, ◌⊎◌, ℕ, List, ◌++◌, [], ◌∷◌, Option, Some, None, IsSome, Result, Ok, Err}
-use Rattle.std.specs.List.{Contains, slice_get}
+use Rattle.std.specs.List.{Contains, slice_get, sum_by}
+use Rattle.std.specs.FinMap as map
 use Rattle.disk_journal.specs.declared.disk.Disk.{Ghosts}
 use Rattle.claim_types.specs.declared.rule.Ended.{Ended}
 use Rattle.claim_types.specs.declared.rule.Ended.TheVariants.{Changed as EndedChanged}
@@ -11,6 +12,7 @@ use Rattle.claim_types.specs.declared.step.Transition.{Transition}
 use Rattle.disk_journal.specs.Effects.{FailedAt}
 use Rattle.claim_map.specs.Bounds.{AreCells}
 use Rattle.claim_map.specs.Registry.{Registry, cell_of}
+use Rattle.cell_store.specs.Store.{stored}
 use Rattle.reconciler.specs.Agent.{IsReady as IsAgentReady}
 use Rattle.reconciler.specs.declared.agent.CellAgent.{CellAgent}
 use Rattle.cells_world.specs.Post.{ArePackets}
@@ -41,6 +43,10 @@ pub record IsReady {D : Type 0} (g : Ghosts D) (d : D) (c : Cluster) : Type 0 wh
   pub service : IsServing g d c.service
   pub cells : (a : CellAgent) → Contains c.cells.items a → IsAgentReady g d a
   pub packets : ArePackets c.post
+
+-- how many rows are outstanding, over these cells
+abbrev pub outstanding_of : List CellAgent → ℕ
+outstanding_of cells = sum_by (λ a. map.len (stored a.store).rows) cells
 
 -- the notes, with that of an attempt that ended since the records have changed
 abbrev pub noted_by : Option Ended → List Note → List Note

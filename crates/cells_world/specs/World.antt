@@ -10,6 +10,8 @@ use Rattle.disk_journal.specs.Entries.{Stands}
 use Rattle.cells_edge.specs.Wire.{IsStill}
 use Rattle.cells_edge.specs.declared.wire.Packet.{Packet as WirePacket}
 use Rattle.cells_edge.specs.declared.wire.Wire.{Ghosts as WireGhosts}
+use Rattle.claim_types.specs.declared.rule.Note.{Note}
+use Rattle.claim_types.specs.declared.step.Transition.{Transition}
 use Rattle.claim_map.specs.Registry.{Registry, cell_of}
 use Rattle.claim_map.specs.State.{ClaimMap, tree_of}
 use Rattle.claim_laws.specs.Acts.{after_message}
@@ -105,11 +107,15 @@ BreaksAt g place old new =
     (p : Packet) → slice_get (packets_of old.cluster.post) place ≡ Some p → (start : ClaimMap) (w : World) → IsInOrder old.cluster.registry start w → IsIn old.cluster w →
     BreaksThere g w (after_message old.cluster.registry (place + 1) p.message w) old new
 
+-- the packets that a wire handed over between two moments are those of these events, in order
+abbrev pub HandsThese : {N : Type 0} → WireGhosts N → Registry → World → List Event → N → N → Type 0
+HandsThese n registry w es wire wire_now = IsTrue n.tells → (given : List WirePacket) × (n.handed wire_now ≡ n.handed wire ++ given) × AreGiven registry w given es
+
 -- What goes from one moment to another: these events, whatever the disk and the wire do.
 pub record Goes {D N : Type 0} (g : Ghosts D) (n : WireGhosts N) (registry : Registry) (w : World) (old new : At D N) (es : List Event) : Type 0 where
   pub now : IsIn new.cluster (run registry es w)
   pub moments : LeavesOnly g old.disk new.disk (IsReached registry w es)
-  pub handed : IsTrue n.tells → (given : List WirePacket) × (n.handed new.wire ≡ n.handed old.wire ++ given) × AreGiven registry w given es
+  pub handed : HandsThese n registry w es old.wire new.wire
 
 -- a packet is handed over, or dropped
 abbrev pub IsHandOver : Event → Type 0
@@ -129,19 +135,23 @@ HandsOver g n before after old new =
     (es : List Event) × AllByRecursion IsHandOver es × (after ≡ course_behind old.cluster.registry w before es) × (new.cluster.takes ≡ old.cluster.takes + length es) × Goes g n old.cluster.registry w old new es
     × (Works n old.wire new.wire → AreOnWay old.cluster.registry w (way_at n old) es (way_at n new))
 
--- What events leave that came to an end by an error: the steps and the notes that are told are those of some first ones, all but the last at most; at each
--- moment the files stood for a world that first events lead to, and at the end for the world behind those that are told, or, where the disk's count of faults
+-- What events leave that came to an end by an error, of which these steps and notes are told: they are those of some first ones, all but the last at most; at
+-- each moment the files stood for a world that first events lead to, and at the end for the world behind those that are told, or, where the disk's count of faults
 -- rose, behind one more; and the wire handed over the packets of them all.
-pub record Breaks {D N : Type 0} (g : Ghosts D) (n : WireGhosts N) (registry : Registry) (w : World) (old new : At D N) (es : List Event) : Type 0 where
+pub record LeavesTold {D N : Type 0} (g : Ghosts D) (n : WireGhosts N) (registry : Registry) (w : World) (es : List Event) (steps : List Transition) (noted : List Note) (disk disk_now : D) (wire wire_now : N) : Type 0 where
   pub told : List Event
   pub more : List Event
   pub cut : told ++ more ≡ es
   pub few : length more ≤ 1
-  pub trace : (run registry told w).trace ≡ new.cluster.trace.items
-  pub notes : (run registry told w).notes ≡ new.cluster.notes.items
-  pub moments : LeavesOnly g old.disk new.disk (IsReached registry w es)
-  pub stands : StandsOrFailed g registry (run registry told w) (run registry es w) old.disk new.disk
-  pub handed : IsTrue n.tells → (given : List WirePacket) × (n.handed new.wire ≡ n.handed old.wire ++ given) × AreGiven registry w given es
+  pub trace : (run registry told w).trace ≡ steps
+  pub notes : (run registry told w).notes ≡ noted
+  pub moments : LeavesOnly g disk disk_now (IsReached registry w es)
+  pub stands : StandsOrFailed g registry (run registry told w) (run registry es w) disk disk_now
+  pub handed : HandsThese n registry w es wire wire_now
+
+-- the cluster tells of such an end
+abbrev pub Breaks : {D N : Type 0} → Ghosts D → WireGhosts N → Registry → World → At D N → At D N → List Event → Type 0
+Breaks g n registry w old new es = LeavesTold g n registry w es new.cluster.trace.items new.cluster.notes.items old.disk new.disk old.wire new.wire
 
 -- hand-overs came to such an end, from any world in order that the cluster was in
 abbrev pub BreaksOff : {D N : Type 0} → Ghosts D → WireGhosts N → At D N → At D N → Type 0

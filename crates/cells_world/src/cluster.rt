@@ -1,5 +1,5 @@
 //! Service and cells on one disk, with a wire between them.
-ghost use Rattle.std.specs.Prelude.{◌≡◌, ◌≢◌, ◌≤◌, ◌<◌, ◌+◌, ◌-◌, ◌^◌, ◌++◌, ◌∷◌, [], ℕ, Bool, false, IsTrue, Some, IfSome, IfNone, IfOk, IfErr, OnOk, OnErr, IsErrOf, length, map as list_map, vec_len, vec_capacity};
+ghost use Rattle.std.specs.Prelude.{◌≡◌, ◌≢◌, ◌≤◌, ◌<◌, ◌+◌, ◌-◌, ◌^◌, ◌++◌, ◌∷◌, [], ℕ, Bool, false, IsTrue, Some, IfSome, IfNone, IfOk, IfErr, OnOk, OnErr, IsErrOf, length, map as list_map, min, vec_len, vec_capacity};
 ghost use Rattle.std.specs.List.{slice_get};
 ghost use Rattle.claim_laws.specs.Bounded.{IsMessage};
 ghost use Rattle.disk_journal.specs.Effects.{FailedAt};
@@ -13,14 +13,15 @@ ghost use Rattle.cells_world.specs.Lines.{Acts, IsBuilt, cell_of_change, moment_
 ghost use Rattle.cells_world.specs.Puts.{PutsFor};
 ghost use Rattle.cells_script.specs.declared.line.Line.TheVariants.{Range as LineRange, Reconcile, Repeat};
 ghost use Rattle.claim_types.specs.MessageBounds.{IsRequest};
+ghost use Rattle.claim_types.specs.declared.limits.TheConstants.{GREATEST_NUMBER};
 ghost use Rattle.claim_types.specs.declared.rule.Note.TheVariants.{Ended as EndedNote};
 ghost use Rattle.claim_laws.specs.Acts.{packet_of as asked_packet};
 ghost use Rattle.claim_laws.specs.Nodes.{due_attempts, without_attempts};
 ghost use Rattle.reconciler.specs.Agent.{kept_by, IsAgent, IsSameAgent};
 ghost use Rattle.cells_world.specs.Ending.{GoesOn, NotesMore};
-ghost use Rattle.cells_world.specs.Opening.{FailsTwice, IsNew, IsOpenEnd, Opens, StandsStill};
+ghost use Rattle.cells_world.specs.Opening.{FailsTwice, IsNew, IsOpenEnd, KeepsFiles, Opens};
 ghost use Rattle.cells_world.specs.declared.limits.TheConstants.{MOST_TAKES, TAKES_A_LINE};
-ghost use Rattle.cells_world.specs.Cluster.{IsReady, IsPlaceOf, Lacks, noted_by, traced_by, IsEndOf, IsSameBeside, IsSameButWire, IsSameCluster, SendsOnly};
+ghost use Rattle.cells_world.specs.Cluster.{IsReady, IsPlaceOf, Lacks, noted_by, outstanding_of, traced_by, IsEndOf, IsSameBeside, IsSameButWire, IsSameCluster, SendsOnly};
 ghost use Rattle.cells_world.specs.World.{at as moment, BreaksAt, BreaksOff, HandsAt, HandsOver};
 
 use crate::answer::{Begun, is_tag, is_zero, refused};
@@ -547,6 +548,17 @@ impl Cluster {
         self.service.leases().open_number()
     }
 
+    /// How many rows are outstanding, over all cells, as far as the count goes.
+    pub fn outstanding(&self) -> u64
+        ensures { result ≡ min (outstanding_of self.now.cells.items) GREATEST_NUMBER }
+    {
+        let mut rows = 0u64;
+        for agent in self.cells.as_slice() {
+            rows = rows.saturating_add(agent.store().rows().len() as u64);
+        }
+        rows
+    }
+
     /// Opens the service's file, and then those of the cells in the order of the configuration. A file whose opening failed is
     /// tried once more.
     ///
@@ -558,16 +570,17 @@ impl Cluster {
         registry: Registry,
     ) -> Result<Cluster, ClusterError>
         ensures registry { IfOk result (λ c. c.registry ≡ registry) }
-        ensures opens { IsTrue D.tells → StandsStill D.Disk disk.old disk.new →
-            IfOk result (Opens registry (D.seen disk.old)) }
+        ensures opens { IsTrue D.tells → IfOk result (Opens D.Disk registry disk.old disk.new) }
         ensures ready { IfOk result (IsReady D.Disk disk.new) }
         ensures new { IfOk result IsNew }
         ensures end { IsOpenEnd D.Disk registry disk.old disk.new result }
         ensures twice { IfErr result (FailsTwice D.Disk disk.old disk.new) }
+        ensures keeps { KeepsFiles D.Disk registry disk.old disk.new }
         ensures later { D.faults disk.old ≤ D.faults disk.new }
     {
+        let configured = registry.cells();
         let service = open_service(alloc, disk, &registry)?;
-        let cells = open_agents(alloc, disk, registry.cells(), registry.threshold())?;
+        let cells = open_agents(alloc, disk, configured, registry.threshold())?;
         Ok(Cluster {
             registry,
             service,

@@ -6,8 +6,9 @@
 //! assert!(cluster.trace().len() == 3);                                           // leased, recorded, committed
 //! ```
 //!
-//! [`Cluster::open`] opens each node's file; where calls of the disk were sound, the cluster is in the world that the files stood
-//! for, with every node opened again (`opens`). [`Cluster::line`] does a line of a script: its own event, and then one
+//! [`Cluster::open`] opens each node's file: the cluster is in the world that the files stood for, with every node opened again
+//! (`opens`), and whatever it answers, each file stands for what it stood for, but for a cell's epoch (`keeps`).
+//! [`Cluster::line`] does a line of a script: its own event, and then one
 //! hand-over for each packet that the wire gave, in order (`follows`); the files stood at each moment for a world that the
 //! first of these events lead to. A world in order stays in order by the law of `claim_laws`, so the trace is a run of legal
 //! steps. A packet that was not sent here, or whose leg or bytes are not those of its tag, is dropped. The line's answer is the

@@ -3,17 +3,15 @@ ghost use Rattle.std.specs.Prelude.{◌≡◌, ◌≢◌, ◌≤◌, ◌<◌, �
 ghost use Rattle.std.specs.List.{Contains, slice_get};
 ghost use Rattle.claim_types.specs.Bounds.{IsCell};
 ghost use Rattle.claim_types.specs.declared.cell.Cell.{Cell as TheCell};
-ghost use Rattle.claim_service.specs.Node.{service};
-ghost use Rattle.claim_service.specs.State.{kept};
 ghost use Rattle.claim_service.specs.declared.limits.TheConstants.{SERVICE_FILE};
 ghost use Rattle.claim_service.specs.declared.node.TopologyNode.{TopologyNode as TheNode};
 ghost use Rattle.claim_service.specs.declared.opening.ServiceOpenFault.TheVariants.{Failed as ServiceFailed};
-ghost use Rattle.cell_store.specs.Opening.{IsOpened};
+ghost use Rattle.cell_store.specs.Opening.{KeepsBodies};
 ghost use Rattle.cell_store.specs.declared.fault.CellOpenFault.TheVariants.{Failed as CellFailed};
-ghost use Rattle.disk_journal.specs.Entries.{Stands, TouchesOnly};
+ghost use Rattle.disk_journal.specs.Entries.{TouchesOnly};
 ghost use Rattle.reconciler.specs.Agent.{IsReady as IsAgentReady};
-ghost use Rattle.cells_world.specs.Opening.{FailsTwice, IsCellEnd, IsIdle, IsServiceEnd, IsStoreReady, StandsStill};
-ghost use Rattle.cells_world.specs.Opening.{AreApart, AreNew, AreOf, AreOpened, AreToEndFrom, IsOneEnd, StaysBeside};
+ghost use Rattle.cells_world.specs.Opening.{FailsTwice, IsCellEnd, IsIdle, IsOpenedFrom, IsServiceEnd, IsServiceFrom, IsStoreAsBefore, IsStoreReady, Moves};
+ghost use Rattle.cells_world.specs.Opening.{AreApart, AreNew, AreOf, AreOpenedFrom, AreToEndFrom, IsIdOf, IsOneEnd, StaysBeside};
 ghost use Rattle.cells_world.specs.Faults.{fault_of_service_open, fault_of_cell_open};
 ghost use Rattle.cells_world.specs.Serving.{IsServing};
 
@@ -106,10 +104,10 @@ pub fn open_service<D: Disk>(
     registry: &Registry,
 ) -> Result<TopologyNode, ClusterError>
     ensures serving { IfOk result (IsServing D.Disk disk.new) }
-    ensures stands { IsTrue D.tells → StandsStill D.Disk disk.old disk.new →
-        IfOk result (λ node. Stands service (D.seen disk.old) SERVICE_FILE (kept node.state)) }
+    ensures stands { IfOk result (IsServiceFrom D.Disk disk.old) }
     ensures end { IsServiceEnd D.Disk registry.now disk.old disk.new result }
     ensures twice { IfErr result (FailsTwice D.Disk disk.old disk.new) }
+    ensures keeps { Moves D.Disk (λ q. q ≡ SERVICE_FILE) KeepsBodies disk.old disk.new }
     ensures others { TouchesOnly D.Disk SERVICE_FILE disk.old disk.new }
 {
     let first = match TopologyNode::open(alloc, disk, registry) {
@@ -129,10 +127,10 @@ pub fn open_service<D: Disk>(
 fn open_store<D: Disk>(alloc: Global, disk: &mut D, cell: u16) -> Result<CellStore, ClusterError>
     requires { IsCell cell }
     ensures ready { IfOk result (IsStoreReady D.Disk disk.new cell) }
-    ensures opened { IsTrue D.tells → StandsStill D.Disk disk.old disk.new →
-        IfOk result (IsOpened cell (D.seen disk.old)) }
+    ensures opened { IfOk result (IsOpenedFrom D.Disk cell disk.old disk.new) }
     ensures end { IsCellEnd D.Disk cell disk.old disk.new result }
     ensures twice { IfErr result (FailsTwice D.Disk disk.old disk.new) }
+    ensures keeps { Moves D.Disk (λ q. q ≡ cell) (IsStoreAsBefore 2) disk.old disk.new }
     ensures others { TouchesOnly D.Disk cell disk.old disk.new }
 {
     let first = match CellStore::open(alloc, disk, cell) {
@@ -160,10 +158,10 @@ pub fn open_agent<D: Disk>(
     ensures threshold { IfOk result (λ a. a.threshold ≡ threshold) }
     ensures ready { IfOk result (IsAgentReady D.Disk disk.new) }
     ensures idle { IfOk result IsIdle }
-    ensures opened { IsTrue D.tells → StandsStill D.Disk disk.old disk.new →
-        IfOk result (λ a. IsOpened cell (D.seen disk.old) a.store) }
+    ensures opened { IfOk result (λ a. IsOpenedFrom D.Disk cell disk.old disk.new a.store) }
     ensures end { IsCellEnd D.Disk cell disk.old disk.new result }
     ensures twice { IfErr result (FailsTwice D.Disk disk.old disk.new) }
+    ensures keeps { Moves D.Disk (λ q. q ≡ cell) (IsStoreAsBefore 2) disk.old disk.new }
     ensures others { TouchesOnly D.Disk cell disk.old disk.new }
 {
     let store = open_store(alloc, disk, cell)?;
@@ -182,10 +180,10 @@ pub fn open_agents<D: Disk>(
     ensures cells { IfOk result (λ agents. AreOf cells.now agents.items) }
     ensures new { IfOk result (λ agents. AreNew D.Disk disk.new agents.items) }
     ensures thresholds { IfOk result (λ agents. AreToEndFrom threshold agents.items) }
-    ensures opened { IsTrue D.tells → StandsStill D.Disk disk.old disk.new →
-        IfOk result (λ agents. AreOpened (D.seen disk.old) agents.items) }
+    ensures opened { IfOk result (λ agents. AreOpenedFrom D.Disk disk.old disk.new agents.items) }
     ensures end { IfErr result (IsOneEnd D.Disk cells.now disk.old disk.new) }
     ensures twice { IfErr result (FailsTwice D.Disk disk.old disk.new) }
+    ensures keeps { Moves D.Disk (IsIdOf cells.now) (IsStoreAsBefore 2) disk.old disk.new }
     ensures others { StaysBeside D.Disk cells.now disk.old disk.new }
     ensures later { D.faults disk.old ≤ D.faults disk.new }
 {

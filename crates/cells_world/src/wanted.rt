@@ -1,7 +1,9 @@
 //! The change that a line of a script asks for.
 ghost use Rattle.std.specs.Prelude.{◌≡◌, ◌≤◌, ◌==◌, IfOk, IfSome, length, position, reverse};
 ghost use Rattle.cells_world.specs.Wanted as spec;
-ghost use Rattle.claim_types.specs.declared.record.Change.TheVariants.{Create};
+ghost use Rattle.claim_types.specs.declared.key.Bucket.TheVariants.{OrganizationPath};
+ghost use Rattle.claim_types.specs.declared.record.Change.TheVariants.{Create, Rename};
+ghost use Rattle.claim_types.specs.declared.record.Kind.TheVariants.{Organization};
 
 use cells_base::{NoMemory, Text};
 use cells_script::Line;
@@ -75,40 +77,65 @@ fn created_below(
     })
 }
 
+// A record of this kind and name, in the organization that a text names.
+fn created_in(
+    alloc: Global,
+    tree: &Tree,
+    kind: Kind,
+    name: &Text,
+    organization: &Text,
+) -> Result<Change, NoMemory>
+    ensures { IfOk result (λ change. change
+        ≡ Create kind (spec.record_named tree.now OrganizationPath organization.now) (spec.name_of name.now)) }
+{
+    let bucket = Bucket::OrganizationPath;
+    created_below(alloc, tree, kind, name, bucket, organization)
+}
+
+// An organization of this name.
+fn created_alone(alloc: Global, name: &Text) -> Result<Change, NoMemory>
+    ensures { IfOk result (λ change. change ≡ Create Organization 0 (spec.name_of name.now)) }
+{
+    Ok(Change::Create {
+        kind: Kind::Organization,
+        parent: 0,
+        name: lowered(alloc, name.as_slice())?,
+    })
+}
+
+// The record that a text names gets this name.
+fn renamed(
+    alloc: Global,
+    tree: &Tree,
+    bucket: Bucket,
+    value: &Text,
+    name: &Text,
+) -> Result<Change, NoMemory>
+    ensures { IfOk result (λ change. change
+        ≡ Rename (spec.record_named tree.now bucket value.now) (spec.name_of name.now)) }
+{
+    Ok(Change::Rename {
+        id: record_named(alloc, tree, bucket, value.as_slice())?,
+        name: lowered(alloc, name.as_slice())?,
+    })
+}
+
 /// The change that a line asks of a tree, if it asks for one. Names are looked up in the claims of the tree.
 pub fn change_wanted(alloc: Global, line: &Line, tree: &Tree) -> Result<Option<Change>, NoMemory>
     ensures { IfOk result (λ change. change ≡ spec.change_wanted line.now tree.now) }
 {
     let change = match line {
-        Line::CreateOrganization { name, .. } => Change::Create {
-            kind: Kind::Organization,
-            parent: 0,
-            name: lowered(alloc, name.as_slice())?,
-        },
+        Line::CreateOrganization { name, .. } => created_alone(alloc, name)?,
         Line::CreateUser {
             name,
             organization,
             ..
-        } => created_below(
-            alloc,
-            tree,
-            Kind::User,
-            name,
-            Bucket::OrganizationPath,
-            organization,
-        )?,
+        } => created_in(alloc, tree, Kind::User, name, organization)?,
         Line::CreateTopGroup {
             name,
             organization,
             ..
-        } => created_below(
-            alloc,
-            tree,
-            Kind::Group,
-            name,
-            Bucket::OrganizationPath,
-            organization,
-        )?,
+        } => created_in(alloc, tree, Kind::Group, name, organization)?,
         Line::CreateGroup { route, .. } => {
             created_at(alloc, tree, Kind::Group, route.as_slice())?
         }
@@ -129,10 +156,7 @@ pub fn change_wanted(alloc: Global, line: &Line, tree: &Tree) -> Result<Option<C
             value,
             name,
             ..
-        } => Change::Rename {
-            id: record_named(alloc, tree, *bucket, value.as_slice())?,
-            name: lowered(alloc, name.as_slice())?,
-        },
+        } => renamed(alloc, tree, *bucket, value, name)?,
         Line::Remove { bucket, value, .. } => Change::Remove {
             id: record_named(alloc, tree, *bucket, value.as_slice())?,
         },

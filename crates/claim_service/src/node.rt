@@ -3,8 +3,9 @@ ghost use Rattle.std.specs.Prelude.{◌≡◌, ◌↔◌, IsTrue, IfOk, IfErr, O
 ghost use Rattle.claim_types.specs.MessageBounds.{IsRequest};
 ghost use Rattle.claim_map.specs.Bounds.{AreCells};
 ghost use Rattle.claim_map.specs.Entries.{entry_of};
-ghost use Rattle.disk_journal.specs.Entries.{Stands, OpensAs, TouchesOnly, FailsAt, Untouched};
-ghost use Rattle.disk_journal.specs.Effects.{FailedAt};
+ghost use Rattle.disk_journal.specs.Entries.{Stands, TouchesOnly, FailsAt, Untouched};
+ghost use Rattle.disk_journal.specs.Effects.{FailedAt, IsOpening, IsTrimmed};
+ghost use Rattle.disk_journal.specs.Moments.{LeavesOnly};
 ghost use Rattle.claim_service.specs.Opening.{IsOpenFault, KnowsAll};
 ghost use Rattle.claim_service.specs.declared.opening.ServiceOpenFault.TheVariants.{Failed as OpenFailed};
 ghost use Rattle.claim_service.specs.State.{kept, owed, HasEffect};
@@ -74,7 +75,8 @@ impl TopologyNode {
         ensures live { IfOk result (λ node. IsTrue node.journal.live) }
         ensures node { IfOk result IsNode }
         ensures refused { IsTrue D.tells → IfErr result (IsOpenFault registry.now (D.seen disk.old)) }
-        ensures any_moment { OpensAs D.Disk service disk.old disk.new SERVICE_FILE }
+        ensures reads { IsTrue D.tells → IsTrimmed SERVICE_FILE (D.seen disk.old) (D.seen disk.new) }
+        ensures any_moment { LeavesOnly D.Disk disk.old disk.new (IsOpening D.Disk disk.old SERVICE_FILE) }
         ensures others { TouchesOnly D.Disk SERVICE_FILE disk.old disk.new }
         ensures failed { IsErrOf result ServiceOpenFault.Failed → FailedAt D.Disk SERVICE_FILE disk.old disk.new }
     {

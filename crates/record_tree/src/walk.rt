@@ -1,12 +1,11 @@
 //! What a rename creates and destroys, in one walk over the records behind its record.
-ghost use Rattle.std.specs.Prelude.{◌≡◌, ◌≢◌, ◌+◌, ◌<◌, ◌≤◌, length, map, drop, take, slice_index_or, IfOk, OnOk, Some};
-ghost use Rattle.std.specs.Char.{to_ascii_lowercase};
+ghost use Rattle.std.specs.Prelude.{◌≡◌, ◌+◌, ◌<◌, ◌≤◌, length, map, drop, take, slice_index_or, IfOk, OnOk, Some};
 ghost use Rattle.claim_map.specs.Trees.{AreRows, AreAscending};
 ghost use Rattle.claim_map.specs.Records.{renamed as with_name};
 ghost use Rattle.claim_map.specs.Claims.{route_of, claims_from, operations_between};
 ghost use Rattle.record_tree.specs.Answer.{claim_at as the_claim};
 ghost use Rattle.record_tree.specs.Kept.{AreAbove};
-ghost use Rattle.record_tree.specs.Between.{between_renamed};
+ghost use Rattle.record_tree.specs.Between.{HasOtherName, between_renamed};
 ghost use Rattle.record_tree.specs.Walking.{Fits};
 ghost use Rattle.claim_types.specs.declared.record.Record.{Record};
 ghost use Rattle.std.specs.Prelude.{[], ◌∷◌, ◌++◌};
@@ -120,8 +119,7 @@ pub fn rename_operations(
     requires ascending { AreAscending 0 records.now }
     requires above { AreAbove records.now }
     requires within { at < length records.now }
-    requires other { (d : Record) →
-        map to_ascii_lowercase (slice_index_or records.now at d).name ≢ map to_ascii_lowercase name.now }
+    requires other { HasOtherName records.now at name.now }
     ensures { (d : Record) → IfOk result (λ ops. ops ≡
         between_renamed records.now (slice_index_or records.now at d).id name.now) }
 {

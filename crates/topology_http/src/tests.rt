@@ -55,96 +55,95 @@ fn shows(bytes: &str, method: &str, target: &str, cookie: &str) -> bool {
     }
 }
 
+// The refusals of requests, in their order, and requests that are read.
+const REQUESTS: [(&str, Option<HttpFault>); 17] = [
+    ("", Some(HttpFault::Partial)),
+    (
+        "POST /v1/claims HTTP/1.1\r\nHost: service\r\n",
+        Some(HttpFault::Partial),
+    ),
+    ("POST /v1/claims\r\n\r\n", Some(HttpFault::BadHead)),
+    (
+        "POST / HTTP/1.1\r\nContent-Length: 2\r\ncontent-length: 2\r\n\r\n{}",
+        Some(HttpFault::BadHead),
+    ),
+    (
+        "POST / HTTP/1.1\r\nContent-Length: +2\r\n\r\n{}",
+        Some(HttpFault::BadHead),
+    ),
+    (
+        "POST / HTTP/1.1\r\nContent-Length: 00000000000000000002\r\n\r\n{}",
+        Some(HttpFault::BadHead),
+    ),
+    (
+        "POST / HTTP/1.1\r\nContent-Length: x\r\nTransfer-Encoding: chunked\r\n\r\n",
+        Some(HttpFault::BadHead),
+    ),
+    (
+        "POST / HTTP/1.1\r\ntransfer-encoding: chunked\r\n\r\n",
+        Some(HttpFault::Chunked),
+    ),
+    (
+        "POST / HTTP/1.1\r\nHost: service\r\n\r\n",
+        Some(HttpFault::NoLength),
+    ),
+    ("GET / HTTP/1.1\r\nHost: service\r\n\r\n", None),
+    (
+        "POST / HTTP/1.1\r\nContent-Length: 32769\r\n\r\n",
+        Some(HttpFault::TooLarge { n: 32_769 }),
+    ),
+    (
+        "POST / HTTP/1.1\r\nContent-Length: 9999999999999999999\r\n\r\n",
+        Some(HttpFault::TooLarge {
+            n: 9_999_999_999_999_999_999,
+        }),
+    ),
+    (
+        "POST / HTTP/1.1\r\nContent-Length: 32768\r\n\r\n",
+        Some(HttpFault::Partial),
+    ),
+    (
+        "POST / HTTP/1.1\r\nContent-Length: 3\r\n\r\n{}",
+        Some(HttpFault::Partial),
+    ),
+    (
+        "POST / HTTP/1.1\r\nContent-Length: 0000000000000000002\r\n\r\n{}",
+        None,
+    ),
+    (CURL, None),
+    (BROWSER, None),
+];
+
+const RESPONSES: [(&str, Option<HttpFault>); 3] = [
+    ("HTTP/1.1 200 OK\r\n\r\n", Some(HttpFault::NoLength)),
+    ("HTTP/1.1 200 OK\r\nContent-Length: 0\r\n\r\n", None),
+    ("HTTP/1.1 2000 OK\r\n", Some(HttpFault::BadHead)),
+];
+
 #[test]
 fn each_refusal_is_found_in_its_order(rt: HostRuntime) -> Result<(), Fail> {
-    let requests = [
-        ("", Some(HttpFault::Partial)),
-        (
-            "POST /v1/claims HTTP/1.1\r\nHost: service\r\n",
-            Some(HttpFault::Partial),
-        ),
-        ("POST /v1/claims\r\n\r\n", Some(HttpFault::BadHead)),
-        (
-            "POST / HTTP/1.1\r\nContent-Length: 2\r\ncontent-length: 2\r\n\r\n{}",
-            Some(HttpFault::BadHead),
-        ),
-        (
-            "POST / HTTP/1.1\r\nContent-Length: +2\r\n\r\n{}",
-            Some(HttpFault::BadHead),
-        ),
-        (
-            "POST / HTTP/1.1\r\nContent-Length: 00000000000000000002\r\n\r\n{}",
-            Some(HttpFault::BadHead),
-        ),
-        (
-            "POST / HTTP/1.1\r\nContent-Length: x\r\nTransfer-Encoding: chunked\r\n\r\n",
-            Some(HttpFault::BadHead),
-        ),
-        (
-            "POST / HTTP/1.1\r\ntransfer-encoding: chunked\r\n\r\n",
-            Some(HttpFault::Chunked),
-        ),
-        (
-            "POST / HTTP/1.1\r\nHost: service\r\n\r\n",
-            Some(HttpFault::NoLength),
-        ),
-        ("GET / HTTP/1.1\r\nHost: service\r\n\r\n", None),
-        (
-            "POST / HTTP/1.1\r\nContent-Length: 32769\r\n\r\n",
-            Some(HttpFault::TooLarge { n: 32_769 }),
-        ),
-        (
-            "POST / HTTP/1.1\r\nContent-Length: 9999999999999999999\r\n\r\n",
-            Some(HttpFault::TooLarge {
-                n: 9_999_999_999_999_999_999,
-            }),
-        ),
-        (
-            "POST / HTTP/1.1\r\nContent-Length: 32768\r\n\r\n",
-            Some(HttpFault::Partial),
-        ),
-        (
-            "POST / HTTP/1.1\r\nContent-Length: 3\r\n\r\n{}",
-            Some(HttpFault::Partial),
-        ),
-        (
-            "POST / HTTP/1.1\r\nContent-Length: 0000000000000000002\r\n\r\n{}",
-            None,
-        ),
-        (CURL, None),
-        (BROWSER, None),
-    ];
-    finds(&rt, Side::Request, &requests);
-    let responses = [
-        ("HTTP/1.1 200 OK\r\n\r\n", Some(HttpFault::NoLength)),
-        ("HTTP/1.1 200 OK\r\nContent-Length: 0\r\n\r\n", None),
-        ("HTTP/1.1 2000 OK\r\n", Some(HttpFault::BadHead)),
-    ];
-    finds(&rt, Side::Response, &responses);
-    assert!(rt;
-        shows(
-            BROWSER,
-            "GET",
-            "/acme/app",
-            "_session=cell-2-abc; theme=dark"
-        )
-    );
-    assert!(rt;
-        shows(
-            "GET / HTTP/1.1\r\ncookie: a\r\nCookie: b\r\n\r\n",
-            "GET",
-            "/",
-            "a"
-        )
-    );
+    finds(&rt, Side::Request, &REQUESTS);
+    finds(&rt, Side::Response, &RESPONSES);
+    Ok(())
+}
+
+#[test]
+fn the_first_cookie_is_read(rt: HostRuntime) -> Result<(), Fail> {
+    let cookie = "_session=cell-2-abc; theme=dark";
+    assert!(rt; shows(BROWSER, "GET", "/acme/app", cookie));
+    let two = "GET / HTTP/1.1\r\ncookie: a\r\nCookie: b\r\n\r\n";
+    assert!(rt; shows(two, "GET", "/", "a"));
+    Ok(())
+}
+
+#[test]
+fn a_head_has_its_greatest_length(rt: HostRuntime) -> Result<(), Fail> {
     let path = "a".repeat(rt.alloc(), 16_366)?;
     let longest = format!(in rt.alloc(); "GET /{path} HTTP/1.1\r\n\r\n")?;
     assert_eq!(rt; fault_of(longest.as_str(), Side::Request), None);
     let longer = format!(in rt.alloc(); "GET /a{path} HTTP/1.1\r\n\r\n")?;
-    assert_eq!(rt;
-        fault_of(longer.as_str(), Side::Request),
-        Some(HttpFault::BadHead)
-    );
+    let refused = fault_of(longer.as_str(), Side::Request);
+    assert_eq!(rt; refused, Some(HttpFault::BadHead));
     Ok(())
 }
 

@@ -107,5 +107,5 @@ returns-in-Err-clause-up g c a registry asked =
     let told = asked_of g.A.Source c.args.words.now c.args.config.now c.in-Some.command (sym c.in-Some.is ∙ c.command_of.ensures) a (Err fault) c.in-Err.ensures.told in
     let own = c.from.ensures in
     let ends = subst (λ (s : Status). EndsWith s c.finish-in-Err.result) own c.finish-in-Err.ensures.ends in
-    config_fails g.B.Source g.W.Sink g.D.Disk g.N.Wire (moment_shown g.C.Clock c.args.clock.now) registry c.args.script.now c.args.out.now c.finish-in-Err.new.out c.args.disk.now c.args.wire.now fault (job_of (command_of c.args.words.now) (g.A.Source.left c.args.config.now)) told asked
+    config_fails g.B.Source g.W.Sink g.D.Disk g.N.Wire (moment_shown g.C.Clock c.args.clock.now) registry c.args.script.now c.args.out.now c.finish-in-Err.new.out c.args.disk.now c.args.wire.now g.met.D.Disk.only_now fault (job_of (command_of c.args.words.now) (g.A.Source.left c.args.config.now)) told asked
     c.finish-in-Err.result ends (λ h. c.finish-in-Err.ensures.told h) (λ h. subst (λ (s : Status). WritesFrontOf g.W.Sink c.args.out.now c.finish-in-Err.new.out s) own (c.finish-in-Err.ensures.part h))

@@ -1,7 +1,7 @@
 use Rattle.std.proofs.Common.{sym, subst, IsTrue}
-use Rattle.cell_store.specs.Opening.{IsOpened}
 use Rattle.cell_store.specs.Store.{Rests}
 use Rattle.cell_store.specs.declared.store.CellStore.{CellStore}
+use Rattle.cells_world.specs.Opening.{IsOpenedFrom}
 use Rattle.cells_world.proofs.opening.open_agent.Goals as goal
 
 pub returns-clause-ready : goal.returns-clause-ready
@@ -12,4 +12,4 @@ returns-clause-ready g c = record {
 }
 
 pub returns-clause-opened : goal.returns-clause-opened
-returns-clause-opened g c = λ tells still. subst (λ (s : CellStore). IsOpened c.args.cell (g.D.Disk.seen c.args.disk.now) s) (sym c.new.ensures.store) (c.in_ok-store.ensures.opened tells still)
+returns-clause-opened g c = subst (λ (s : CellStore). IsOpenedFrom g.D.Disk c.args.cell c.args.disk.now c.open_store.new.disk s) (sym c.new.ensures.store) c.in_ok-store.ensures.opened

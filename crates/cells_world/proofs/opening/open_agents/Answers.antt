@@ -4,7 +4,7 @@ use Rattle.std.proofs.lemmas.List.Elements.{Contains-push_cases}
 use Rattle.cells_base.proofs.Members.{nowhere}
 use Rattle.reconciler.specs.declared.agent.CellAgent.{CellAgent}
 use Rattle.std.proofs.lemmas.Result.{err_from_is_err_and}
-use Rattle.cells_world.proofs.Agents.{AreSoFar, none_so_far, beside_so_far, beside_then, ends_then, one_more}
+use Rattle.cells_world.proofs.Agents.{AreSoFar, none_so_far, beside_so_far, beside_then, ends_then, moved_all, moved_more, moved_none, one_more}
 use Rattle.cells_world.proofs.Openings.{twice_earlier}
 use Rattle.cells_world.proofs.opening.open_agents.Goals as goal
 
@@ -12,6 +12,7 @@ pub loop-cell-init : goal.loop-cell-init
 loop-cell-init g c = record {
   so_far = subst (AreSoFar g.D.Disk c.args.cells.now c.args.disk.now c.args.disk.now 0) (sym c.new-agents.ensures.items) (none_so_far g.D.Disk c.args.cells.now c.args.disk.now);
   thresholds = λ a there. absurd (nowhere a (subst (λ l. Contains l a) c.new-agents.ensures.items there));
+  keeps = moved_none g.D.Disk c.args.cells.now c.args.disk.now c.args.disk.now 0 g.met.D.Disk.only_now;
 }
 
 pub open_agent-requires : goal.open_agent-requires
@@ -33,6 +34,7 @@ loop-cell-preserved g c =
           (λ (old_one : Contains c.loop-cell.agents.items b). c.loop-cell.invariant.thresholds b old_one)
           (λ (new_one : c.in_ok-agent.agent ≡ b). ap (λ (x : CellAgent). x.threshold) (sym new_one) ∙ c.in_ok-agent.ensures.threshold)
           (Contains-push_cases c.loop-cell.agents.items c.in_ok-agent.agent b (subst (λ l. Contains l b) pushed there));
+      keeps = moved_more g.D.Disk c.args.cells.now c.args.disk.now c.loop-cell.disk c.loop-cell.cell-index g.met.D.Disk.counts_now c.requires.apart c.cell-item.result within c.cell-item.is c.open_agent.new.disk c.loop-cell.invariant.keeps c.open_agent.ensures.keeps;
     }
 
 pub returns-in_err-reserve-clause-others : goal.returns-in_err-reserve-clause-others
@@ -52,6 +54,18 @@ returns-in_err-agent-clause-others g c =
     let within : c.loop-cell.cell-index < length c.args.cells.now = omega arith in
     beside_then g.D.Disk c.args.cells.now c.args.disk.now c.loop-cell.disk c.loop-cell.cell-index c.loop-cell.agents.items c.loop-cell.invariant.so_far
     c.requires.apart c.cell-item.result within c.cell-item.is c.open_agent.new.disk c.open_agent.ensures.others
+
+pub returns-in_err-reserve-clause-keeps : goal.returns-in_err-reserve-clause-keeps
+returns-in_err-reserve-clause-keeps g c = moved_all g.D.Disk c.args.cells.now c.args.disk.now c.loop-cell.disk c.loop-cell.cell-index c.loop-cell.invariant.keeps
+
+pub returns-in_err-agent-clause-keeps : goal.returns-in_err-agent-clause-keeps
+returns-in_err-agent-clause-keeps g c =
+    let within : c.loop-cell.cell-index < length c.args.cells.now = omega arith in
+    moved_all g.D.Disk c.args.cells.now c.args.disk.now c.open_agent.new.disk (c.loop-cell.cell-index + 1)
+    (moved_more g.D.Disk c.args.cells.now c.args.disk.now c.loop-cell.disk c.loop-cell.cell-index g.met.D.Disk.counts_now c.requires.apart c.cell-item.result within c.cell-item.is c.open_agent.new.disk c.loop-cell.invariant.keeps c.open_agent.ensures.keeps)
+
+pub returns-clause-keeps : goal.returns-clause-keeps
+returns-clause-keeps g c = moved_all g.D.Disk c.args.cells.now c.args.disk.now c.loop-cell.disk c.loop-cell.cell-index c.loop-cell.invariant.keeps
 
 pub returns-clause-others : goal.returns-clause-others
 returns-clause-others g c = beside_so_far g.D.Disk c.args.cells.now c.args.disk.now c.loop-cell.disk c.loop-cell.cell-index c.loop-cell.agents.items c.loop-cell.invariant.so_far

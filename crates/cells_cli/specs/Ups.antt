@@ -49,8 +49,8 @@ pub record Done {D N : Type 0} (d : DiskGhosts D) (n : WireGhosts N) (shown : Op
   pub moments : LeavesOnly d disk disk_then (IsReached registry w events)
   pub stands : (img : Image) → IsImage (d.may_leave disk_then) img → IsOf registry img (run registry events w)
 
--- What the line leaves at which the cluster came to an end, behind this world and the steps told before: the steps and notes that are told of it are those of some
--- first of its events, all but the last at most, and with the steps told before they are a run of legal ones.
+-- What the line leaves at which the cluster came to an end, behind this world and the steps told before: the steps and notes that are told of it are those of all
+-- of its events, or of all but the last, and with the steps told before they are a run of legal ones.
 pub record BreaksBehind {D N : Type 0} (d : DiskGhosts D) (n : WireGhosts N) (shown : Option ℕ) (registry : Registry) (start : ClaimMap) (w : World) (before : List Transition) (broken : Broken) (disk disk_now : D) (here : Beside N) (wire_now : N) : Type 0 where
   pub clock : ℕ
   pub read : IsShown shown clock

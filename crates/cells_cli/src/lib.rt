@@ -18,9 +18,10 @@
 //!
 //! `up` opens the service and the cells from their files, and does the lines of a script. What is told of each line
 //! stands in `specs/Told`, which lines are done in `specs/Script`, and what the whole comes to in `specs/Ups`: where the
-//! disk did not fail before the files were opened, the transitions that are told are a run of legal steps from the claim map
-//! that the files stood for, and at the end the files stand for the claim map behind them, or where the run ended in a line
-//! for the one behind them or behind one event more.
+//! files were opened, the transitions that are told are a run of legal steps from the claim map that the files stood for.
+//! Behind a run that ended between two lines the files stand for the claim map behind them; behind one that ended in a line
+//! of which is told, for that one, or, only where the disk's count of faults rose in that line, behind one event more. A line
+//! that was done and could not be told stands on the files, too.
 //!
 //! The lines come as `specs/Lines` defines them, in whatever pieces the source gives its bytes, and those of
 //! a script as `specs/ScriptLines` does: there LF drops a CR in front of it.

@@ -135,7 +135,7 @@ HandsOver g n before after old new =
     (es : List Event) × AllByRecursion IsHandOver es × (after ≡ course_behind old.cluster.registry w before es) × (new.cluster.takes ≡ old.cluster.takes + length es) × Goes g n old.cluster.registry w old new es
     × (Works n old.wire new.wire → AreOnWay old.cluster.registry w (way_at n old) es (way_at n new))
 
--- What events leave that came to an end by an error, of which these steps and notes are told: they are those of some first ones, all but the last at most; at
+-- What events leave that came to an end by an error, of which these steps and notes are told: they are those of all of them, or of all but the last; at
 -- each moment the files stood for a world that first events lead to, and at the end for the world behind those that are told, or, where the disk's count of faults
 -- rose, behind one more; and the wire handed over the packets of them all.
 pub record LeavesTold {D N : Type 0} (g : Ghosts D) (n : WireGhosts N) (registry : Registry) (w : World) (es : List Event) (steps : List Transition) (noted : List Note) (disk disk_now : D) (wire wire_now : N) : Type 0 where

@@ -15,8 +15,8 @@
 //! one that these events bring (`answer_of`), and what it put on the wire are the packets that it sent, but for those that were
 //! armed to be lost (`puts`). It takes packets where its event put one, until none is on its way or as many as a line may take.
 //!
-//! A line that comes to an end by a fault or for want of memory told the steps of some first events, and the files stand for the
-//! world behind these, or behind one more (`breaks`).
+//! A line that comes to an end by a fault or for want of memory told the steps of all of its events, or of all but the last, and
+//! the files stand for the world behind these, or, only where the disk's count of faults rose, behind one more (`breaks`).
 //!
 //! Over a wire that tells, and whose count stood still, a line takes the packets on their way in order, and waits only where it
 //! took as many as a line may take, where a put was lost, or where its own event came to that (`TakesOnWay`).

@@ -38,7 +38,8 @@
 //!   [`rolled_back_leases_are_never_recorded`], [`keys_have_one_owner`],
 //!   [`keys_of_records_are_sound`], [`leases_are_within_bounds`], [`messages_are_within_bounds`],
 //!   [`refusals_are_few`],
-//!   [`transitions_are_of_sent_packets`]: what follows.
+//!   [`transitions_are_of_sent_packets`]: what follows (of messages, where what the service keeps at
+//!   the start and what anybody requests is within its bounds).
 //!
 //! And of thirteen worked schedules, which transitions they bring about: [`one_change`],
 //! [`two_cells_ask_for_one_route`], [`a_stale_list`] and the others of `src/examples.rt`.

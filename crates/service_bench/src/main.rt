@@ -1,5 +1,5 @@
 //! Runs the service's node over a real file: as many begins and commits of a route each as the first word says,
-//! which are durable one by one, then an opening of the file, and a classification of a path below each route.
+//! which are durable one by one, then an opening of the file, and the classification of 1,000 paths below these routes.
 //! Prints what it found, and takes the file away. With a second word `times` it prints nanoseconds too; with
 //! `open` it does the opening and the classification alone, on a file that is there, and leaves it.
 //!

@@ -22,9 +22,10 @@ use Rattle.claim_laws.specs.Proper.{AreConfigured}
 use Rattle.claim_laws.specs.World.{World}
 use Rattle.claim_laws.proofs.Law.{run-in_order, start-in_order}
 use Rattle.claim_laws.proofs.Opened.{opened_is_start}
+use Rattle.claim_service.specs.Opening.{KnowsAll}
 use Rattle.reconciler.specs.Agent.{kept_by}
 use Rattle.cells_world.specs.Cluster.{IsReady}
-use Rattle.cells_world.specs.Opening.{FailedTwice, FailsTwice, IsNew, KeepsFiles, Opens}
+use Rattle.cells_world.specs.Opening.{AreOpenedFrom, FailedTwice, FailsTwice, IsNew, IsServiceFrom, KeepsFiles, Opens}
 use Rattle.cells_world.specs.World.{At, at as moment, Breaks, IsIn, IsOf}
 use Rattle.cells_world.specs.declared.cluster.Cluster.{Cluster}
 use Rattle.cells_world.specs.declared.fault.ClusterError.{ClusterError}
@@ -168,7 +169,8 @@ module _ {S W D N : Type 0} (s : SourceGhosts S) (w : SinkGhosts W) (d : DiskGho
   -- the cluster was opened, and the lines were done
   module _ (cluster : Cluster) (opened : D) (new : At D N) (out out_now : W) (status : Status)
       (same : cluster.registry ≡ registry) (fresh : IsNew cluster) (ready_then : IsReady d opened cluster)
-      (opens : IsTrue d.tells → Opens d registry disk opened cluster)
+      (opens : IsTrue d.tells → Opens d registry disk opened cluster) (knows : IsTrue d.tells → KnowsAll registry (d.seen opened))
+      (service : IsServiceFrom d disk cluster.service) (opened_from : AreOpenedFrom d disk opened cluster.cells.items)
       (first : d.faults disk ≤ d.faults opened) (keeps : KeepsFiles d registry disk opened) (later : d.faults opened ≤ d.faults new.disk) (whole : TellsDamage status → ⊥)
       (does : Does w d n shown s.tells (lines_done 0 (script_lines_of (s.left script))) (line_refused 0 (script_lines_of (s.left script))) (moment cluster opened wire) new out out_now status) where
     cells : AreCells cluster.registry
@@ -256,6 +258,12 @@ module _ {S W D N : Type 0} (s : SourceGhosts S) (w : SinkGhosts W) (d : DiskGho
         opened_first = (first, later);
         keeps = keeps;
         went = where_opened status _ _ whole (record {
+          cluster = cluster;
+          of_it = same;
+          ready = ready_then;
+          service = service;
+          cells = opened_from;
+          knows = knows;
           fails = λ file is. (let failed = end.fails file is in (failed.0, failed.1, (rose_earlier (d.faults opened) (d.faults end.here.disk) (d.faults new.disk) end.went.later.0 failed.2.0, failed.2.1)));
           traces = traces_of;
         });

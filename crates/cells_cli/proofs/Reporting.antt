@@ -73,7 +73,7 @@ module _ {D N : Type 0} (d : DiskGhosts D) (n : WireGhosts N) (shown : Option �
         WasNotOpened d told disk brings.disk_open disk_now wire wire_now other ⊎ WasOpened d n shown registry tells wanted told disk brings.disk_open disk_now wire wire_now other
     either_less other within apart = where_less own _ _ _ _
         (λ was. record { none = was.none; ends = was.ends; twice = λ file is. absurd (apart file is) })
-        (λ was. record { fails = λ file is. absurd (apart file is); traces = λ t start world order configured is_of. less_between world brings.disk_open own other within (was.traces t start world order configured is_of) })
+        (λ was. record { cluster = was.cluster; of_it = was.of_it; ready = was.ready; service = was.service; cells = was.cells; knows = was.knows; fails = λ file is. absurd (apart file is); traces = λ t start world order configured is_of. less_between world brings.disk_open own other within (was.traces t start world order configured is_of) })
         brings.went
 
     brings_in_memory : BringsAbout d n shown registry tells wanted told disk disk_now wire wire_now Memory

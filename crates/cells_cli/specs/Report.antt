@@ -1,5 +1,5 @@
 -- The report of a run: what its command writes, and the last line. What each command writes stands in `Served` and `Installed`.
-use Rattle.std.specs.Prelude.{◌≡◌, ◌⊎◌, ℕ, IsTrue, IsOk, List, Option, Some, None, Result, Ok, Err, String}
+use Rattle.std.specs.Prelude.{◌≡◌, ◌⊎◌, ℕ, IsTrue, IsErr, IsOk, List, Option, Some, None, Result, Ok, Err, String}
 use Rattle.std.specs.declared.alloc.Global.{Global}
 use Rattle.cells_edge.specs.Edge.{IsPrefix}
 use Rattle.cells_edge.specs.Streams.{Writes, WritesAll, SourceFails}
@@ -96,6 +96,10 @@ StartsAs job other = Unit {0}
 -- so it is by the words, and by the configuration, where that tells its bytes if the words ask for it
 abbrev pub StartsBy : {A : Type 0} → SourceGhosts A → List (String Global) → A → Status → Type 0
 StartsBy a words config status = TellsConfig a words → StartsAs (job_of (command_of words) (a.left config)) status
+
+-- the words are refused, or the configuration that they ask for, where that tells its bytes
+abbrev pub GivesNoWork : {A : Type 0} → SourceGhosts A → List (String Global) → A → Type 0
+GivesNoWork a words config = TellsConfig a words × IsErr (job_of (command_of words) (a.left config))
 
 -- the files that the words and the configuration ask for are made
 abbrev pub Installs : {A W D : Type 0} → SourceGhosts A → SinkGhosts W → DiskGhosts D → List (String Global) → A → W → W → D → D → Status → Type 0

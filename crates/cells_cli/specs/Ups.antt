@@ -19,7 +19,10 @@ use Rattle.claim_laws.specs.Nodes.{Agent}
 use Rattle.claim_laws.specs.Proper.{AreConfigured}
 use Rattle.claim_laws.specs.Reopened.{IsReopened}
 use Rattle.claim_laws.specs.World.{World}
-use Rattle.cells_world.specs.Opening.{AreInNextEpoch, FailedTwice, IsDamage, IsOpenEnd, KeepsFiles, ShowsSince}
+use Rattle.claim_service.specs.Opening.{KnowsAll}
+use Rattle.cells_world.specs.Cluster.{IsReady}
+use Rattle.cells_world.specs.declared.cluster.Cluster.{Cluster}
+use Rattle.cells_world.specs.Opening.{AreInNextEpoch, AreOpenedFrom, FailedTwice, IsDamage, IsOpenEnd, IsServiceFrom, KeepsFiles, ShowsSince}
 use Rattle.cells_world.specs.Follows.{AreEventsOff}
 use Rattle.cells_world.specs.Lines.{moment_behind}
 use Rattle.cells_world.specs.World.{HandsThese, IsOf, IsReached, LeavesTold}
@@ -116,9 +119,16 @@ pub record WasNotOpened {D N : Type 0} (d : DiskGhosts D) (told : Telling) (disk
   pub ends : EndsThere disk_open disk_now wire wire_now
   pub twice : (file : ℕ) → status ≡ DiskFault file → FailedTwice d file disk disk_open
 
--- They were opened. Where a fault of the disk ended the run it did so in a line, of which is told what was done. Where the disk tells its content, the transitions
--- told are such a run, from any world in order that the files stood for.
+-- They were opened: a cluster was ready on the disk as it was then, whose service keeps what its file stood for, and whose agents what theirs did, in the next epoch;
+-- and the configuration had each cell that the service's file named. Where a fault of the disk ended the run it did so in a line, of which is told what was done.
+-- Where the disk tells its content, the transitions told are such a run, from any world in order that the files stood for.
 pub record WasOpened {D N : Type 0} (d : DiskGhosts D) (n : WireGhosts N) (shown : Option ℕ) (registry : Registry) (tells : Bool) (wanted : List Numbered) (told : Telling) (disk disk_open disk_now : D) (wire wire_now : N) (status : Status) : Type 0 where
+  pub cluster : Cluster
+  pub of_it : cluster.registry ≡ registry
+  pub ready : IsReady d disk_open cluster
+  pub service : IsServiceFrom d disk cluster.service
+  pub cells : AreOpenedFrom d disk disk_open cluster.cells.items
+  pub knows : IsTrue d.tells → KnowsAll registry (d.seen disk_open)
   pub fails : (file : ℕ) → status ≡ DiskFault file → (broken : Broken) × (told.broken ≡ Some broken) × FailedAt d file disk_open disk_now
   pub traces : IsTrue d.tells → (start : ClaimMap) (world : World) → IsInOrder registry start world → AreConfigured registry world → IsOf registry (d.seen disk) world →
       Traces d n shown registry tells wanted world told disk disk_open disk_now wire wire_now status

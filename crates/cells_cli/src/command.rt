@@ -4,7 +4,7 @@ ghost use Rattle.cells_edge.specs.Streams.{WritesAll, WritesFront, SinkFails, So
 ghost use Rattle.cells_cli.specs.Config.{command_of, command_of_one, command_of_two, cell_named as named_by, is_digit as is_digit_byte, is_first_digit as is_first_digit_byte, ReadsConfig, Replays};
 ghost use Rattle.cells_cli.specs.Files.{AreDistinct};
 ghost use Rattle.cells_cli.specs.Installed.{EndsInit, LeavesFiles, DiskFails};
-ghost use Rattle.cells_cli.specs.Report.{Reports, ReportsService, ReportsFiles, Installs, WritesFrontOf, IsRefused, StartsBy, CouldNotRead, Ends, LeavesScript, LeavesDisk, LeavesWire, RunsUpBy};
+ghost use Rattle.cells_cli.specs.Report.{Reports, ReportsService, ReportsFiles, Installs, WritesFrontOf, IsRefused, StartsBy, GivesNoWork, CouldNotRead, Ends, LeavesScript, LeavesDisk, LeavesWire, RunsUpBy};
 ghost use Rattle.cells_cli.specs.Served.{EndsAs, EndsService};
 ghost use Rattle.cells_cli.specs.Service.{KeepsBounds};
 ghost use Rattle.cells_cli.specs.Status.{last_line};
@@ -329,6 +329,8 @@ pub fn run<A: Source, B: Source, W: Sink, D: Disk, N: Wire, C: Clock>(
     ensures statuses { Ends (command_of words.now) result }
 
     // what is left alone
+    ensures nothing_done { GivesNoWork A.Source words.now config.old →
+        (script.new ≡ script.old) × (disk.new ≡ disk.old) × (wire.new ≡ wire.old) × (clock.new ≡ clock.old) }
     ensures script_unread { LeavesScript (command_of words.now) result → script.new ≡ script.old }
     ensures config_unread { (ReadsConfig (command_of words.now) → ⊥) → config.new ≡ config.old }
     ensures disk_unused { LeavesDisk (command_of words.now) result → disk.new ≡ disk.old }

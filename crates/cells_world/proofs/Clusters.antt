@@ -7,6 +7,7 @@ use Rattle.claim_map.specs.Bounds.{AreCells}
 use Rattle.claim_map.specs.Registry.{Registry, cell_of}
 use Rattle.cell_registry.specs.Bounds.{is_registry}
 use Rattle.claim_service.proofs.Configured.{legal_cells}
+use Rattle.claim_service.specs.Opening.{KnowsAll}
 use Rattle.claim_service.specs.declared.limits.TheConstants.{SERVICE_FILE}
 use Rattle.disk_journal.specs.declared.disk.Disk.{Ghosts}
 use Rattle.disk_journal.specs.Disk.{Image}
@@ -26,7 +27,7 @@ use Rattle.cells_world.specs.declared.fault.ClusterError.{ClusterError}
 use Rattle.cells_world.specs.declared.fault.ClusterError.TheVariants.{DiskFailed, Memory, Damaged}
 use Rattle.cells_world.proofs.Agents.{serves_there, shows_same}
 use Rattle.cells_world.proofs.Configured.{agents_of, apart_of, known_of}
-use Rattle.cells_world.proofs.Keeping.{moves_all, stands_same}
+use Rattle.cells_world.proofs.Keeping.{knows_same, moves_all, stands_same}
 
 -- a cell's file is not the service's
 pub numbered : (registry : Registry) → is_registry registry ≡ true → (c : Cell) → Contains registry.cells c → 1 ≤ c.id
@@ -49,6 +50,11 @@ module _ {D : Type 0} (g : Ghosts D) (registry : Registry) (legal : is_registry 
 
   unread : IsTrue g.tells → (cell : ℕ) → 1 ≤ cell → g.seen mid cell ≡ g.seen old cell
   unread tells cell one = (touches.elsewhere tells cell (λ own. omega (arith, own, one))).reads
+
+  -- the service's file names the same cells once those of the cells are opened
+  pub knows_then : IsTrue g.tells → StaysBeside g registry.cells mid new → KnowsAll registry (g.seen mid) → KnowsAll registry (g.seen new)
+  knows_then tells beside knows =
+      knows_same registry (g.seen mid) (g.seen new) (sym (beside tells SERVICE_FILE (λ c there same. (let one = numbered registry legal c there in omega (arith, one, same)))).reads) knows
 
   pub cells_end : (error : ClusterError) → IsOneEnd g registry.cells mid new error → IsOpenEnd {T = Cluster} g registry old new (Err error)
   cells_end (DiskFailed file) ends = let at = ends.2.1 in ((let rose = at.0 in let on = touches.counts.later in omega (arith, rose, on)), at.1)

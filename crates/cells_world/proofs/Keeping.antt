@@ -8,7 +8,7 @@ use Rattle.cells_base.proofs.Truth.{true_or_false}
 use Rattle.disk_journal.specs.declared.disk.Disk.{Ghosts}
 use Rattle.disk_journal.specs.Disk.{Image, IsImage}
 use Rattle.disk_journal.specs.Effects.{IsOpening, IsTrimmed}
-use Rattle.disk_journal.specs.Entries.{Format, IsOneToOne, Stands}
+use Rattle.disk_journal.specs.Entries.{Format, HasEntries, IsOneToOne, Stands}
 use Rattle.disk_journal.specs.Journal.{HasBodies, IsJournal}
 use Rattle.disk_journal.specs.Moments.{LeavesOnly}
 use Rattle.disk_journal.proofs.Entries.{one_list_of}
@@ -22,6 +22,8 @@ use Rattle.claim_map.specs.Bounds.{AreCells}
 use Rattle.claim_map.specs.Registry.{Registry, cell_of}
 use Rattle.claim_map.proofs.Found.{Contains-found}
 use Rattle.claim_laws.specs.Files.{Store, store_in}
+use Rattle.claim_service.specs.Node.{service}
+use Rattle.claim_service.specs.Opening.{KnowsAll}
 use Rattle.claim_service.specs.declared.limits.TheConstants.{SERVICE_FILE}
 use Rattle.cell_store.specs.Opening.{GoesOn, HasNextEpoch, IsOpened, IsOpeningOrNext, KeepsBodies, OpensAtNext, next_epoch}
 use Rattle.cell_store.specs.declared.store.CellStore.{CellStore}
@@ -38,9 +40,24 @@ stands_same f from img file s same is = record {
   folds = is.folds;
 }
 
+entries_same : {E S : Type 0} (f : Format E S) (from img : Image) (file : ℕ) (es : List E) → from file ≡ img file → HasEntries f from file es → HasEntries f img file es
+entries_same f from img file es same has = record { bodies = subst (λ c. IsJournal c (list_map f.bytes es)) same has.bodies; entries = has.entries }
+
 -- a file that keeps its bodies stands for what it stood for
 pub stands_on : {E S : Type 0} (f : Format E S) (from img : Image) (file : ℕ) (s : S) → KeepsBodies file from img → Stands f from file s → Stands f img file s
 stands_on f from img file s keeps is = record { es = is.es; has = record { bodies = keeps.bodies (list_map f.bytes is.es) is.has.bodies; entries = is.has.entries }; folds = is.folds }
+
+-- it has the entries that it had
+entries_on : {E S : Type 0} (f : Format E S) (from img : Image) (file : ℕ) (es : List E) → KeepsBodies file from img → HasEntries f from file es → HasEntries f img file es
+entries_on f from img file es keeps has = record { bodies = keeps.bodies (list_map f.bytes es) has.bodies; entries = has.entries }
+
+-- the service's file names the cells that it named, where it keeps its bodies
+pub knows_on : (registry : Registry) (from img : Image) → KeepsBodies SERVICE_FILE from img → KnowsAll registry from → KnowsAll registry img
+knows_on registry from img keeps is = record { es = is.es; has = entries_on service from img SERVICE_FILE is.es keeps is.has; known = is.known }
+
+-- and where it reads the same
+pub knows_same : (registry : Registry) (from img : Image) → from SERVICE_FILE ≡ img SERVICE_FILE → KnowsAll registry from → KnowsAll registry img
+knows_same registry from img same is = record { es = is.es; has = entries_same service from img SERVICE_FILE is.es same is.has; known = is.known }
 
 pub trimmed_keeps : (file : ℕ) (from img : Image) → IsTrimmed file from img → KeepsBodies file from img
 trimmed_keeps file from img is = record { bodies = is.bodies; no_journal = λ none. is.no_journal none file refl }

@@ -5,6 +5,7 @@ ghost use Rattle.claim_laws.specs.Bounded.{IsMessage};
 ghost use Rattle.disk_journal.specs.Effects.{FailedAt};
 ghost use Rattle.cells_world.specs.Packets.{message_of};
 ghost use Rattle.cells_world.specs.Post.{packets_of, ArePackets, IsGiven, Puts, Sends, SendsSome};
+ghost use Rattle.claim_service.specs.Opening.{KnowsAll};
 ghost use Rattle.claim_service.specs.State.{kept};
 ghost use Rattle.std.specs.FinMap as map;
 ghost use Rattle.cells_world.specs.Answers.{Begins, begun_on_wire, begun_repeat};
@@ -19,7 +20,7 @@ ghost use Rattle.claim_laws.specs.Acts.{packet_of as asked_packet};
 ghost use Rattle.claim_laws.specs.Nodes.{due_attempts, without_attempts};
 ghost use Rattle.reconciler.specs.Agent.{kept_by, IsAgent, IsSameAgent};
 ghost use Rattle.cells_world.specs.Ending.{GoesOn, NotesMore};
-ghost use Rattle.cells_world.specs.Opening.{FailsTwice, IsNew, IsOpenEnd, KeepsFiles, Opens};
+ghost use Rattle.cells_world.specs.Opening.{AreOpenedFrom, FailsTwice, IsNew, IsOpenEnd, IsServiceFrom, KeepsFiles, Opens};
 ghost use Rattle.cells_world.specs.declared.limits.TheConstants.{MOST_TAKES, TAKES_A_LINE};
 ghost use Rattle.cells_world.specs.Cluster.{IsReady, IsPlaceOf, Lacks, noted_by, outstanding_of, traced_by, IsEndOf, IsSameBeside, IsSameButWire, IsSameCluster, SendsOnly};
 ghost use Rattle.cells_world.specs.World.{at as moment, BreaksAt, BreaksOff, HandsAt, HandsOver};
@@ -571,6 +572,9 @@ impl Cluster {
     ) -> Result<Cluster, ClusterError>
         ensures registry { IfOk result (λ c. c.registry ≡ registry) }
         ensures opens { IsTrue D.tells → IfOk result (Opens D.Disk registry disk.old disk.new) }
+        ensures service { IfOk result (λ c. IsServiceFrom D.Disk disk.old c.service) }
+        ensures cells { IfOk result (λ c. AreOpenedFrom D.Disk disk.old disk.new c.cells.items) }
+        ensures knows { IsTrue D.tells → OnOk result (KnowsAll registry (D.seen disk.new)) }
         ensures ready { IfOk result (IsReady D.Disk disk.new) }
         ensures new { IfOk result IsNew }
         ensures end { IsOpenEnd D.Disk registry disk.old disk.new result }

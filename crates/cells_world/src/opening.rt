@@ -6,6 +6,7 @@ ghost use Rattle.claim_types.specs.declared.cell.Cell.{Cell as TheCell};
 ghost use Rattle.claim_service.specs.declared.limits.TheConstants.{SERVICE_FILE};
 ghost use Rattle.claim_service.specs.declared.node.TopologyNode.{TopologyNode as TheNode};
 ghost use Rattle.claim_service.specs.declared.opening.ServiceOpenFault.TheVariants.{Failed as ServiceFailed};
+ghost use Rattle.claim_service.specs.Opening.{KnowsAll};
 ghost use Rattle.cell_store.specs.Opening.{KeepsBodies};
 ghost use Rattle.cell_store.specs.declared.fault.CellOpenFault.TheVariants.{Failed as CellFailed};
 ghost use Rattle.disk_journal.specs.Entries.{TouchesOnly};
@@ -105,6 +106,7 @@ pub fn open_service<D: Disk>(
 ) -> Result<TopologyNode, ClusterError>
     ensures serving { IfOk result (IsServing D.Disk disk.new) }
     ensures stands { IfOk result (IsServiceFrom D.Disk disk.old) }
+    ensures knows { IsTrue D.tells → OnOk result (KnowsAll registry.now (D.seen disk.new)) }
     ensures end { IsServiceEnd D.Disk registry.now disk.old disk.new result }
     ensures twice { IfErr result (FailsTwice D.Disk disk.old disk.new) }
     ensures keeps { Moves D.Disk (λ q. q ≡ SERVICE_FILE) KeepsBodies disk.old disk.new }

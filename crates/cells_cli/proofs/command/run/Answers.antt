@@ -1,5 +1,5 @@
 use Rattle.std.proofs.Common.{◌≡◌, ◌++◌, Some, Ok, Err, List, ℕ, inl, subst, sym, ap, ◌∙◌, Option, Result}
-use Rattle.std.specs.Prelude.{String}
+use Rattle.std.specs.Prelude.{IsErr, String}
 use Rattle.std.specs.declared.alloc.Global.{Global}
 use Rattle.cells_edge.specs.declared.source.Source.{Ghosts as SourceGhosts}
 use Rattle.cells_cli.specs.Config.{Job, job_of, job_with, does_lines, makes_files, command_of, IsSound, ReadsConfig, Configures, ConfiguresAs, status_of_config}
@@ -109,3 +109,22 @@ returns-in-Err-clause-up g c a registry asked =
     let ends = subst (λ (s : Status). EndsWith s c.finish-in-Err.result) own c.finish-in-Err.ensures.ends in
     config_fails g.B.Source g.W.Sink g.D.Disk g.N.Wire (moment_shown g.C.Clock c.args.clock.now) registry c.args.script.now c.args.out.now c.finish-in-Err.new.out c.args.disk.now c.args.wire.now g.met.D.Disk.only_now fault (job_of (command_of c.args.words.now) (g.A.Source.left c.args.config.now)) told asked
     c.finish-in-Err.result ends (λ h. c.finish-in-Err.ensures.told h) (λ h. subst (λ (s : Status). WritesFrontOf g.W.Sink c.args.out.now c.finish-in-Err.new.out s) own (c.finish-in-Err.ensures.part h))
+
+-- where there is work, the words and the configuration give it
+no_work : (job : Result Job Status) (it : Job) → job ≡ Ok it → IsErr job → ⊥
+no_work job it told refused = let none : IsErr {T = Job} {E = Status} (Ok it) = subst (λ (r : Result Job Status). IsErr r) told refused in absurd none
+
+pub returns-in-Ok-Answer-clause-nothing_done : goal.returns-in-Ok-Answer-clause-nothing_done
+returns-in-Ok-Answer-clause-nothing_done g c none =
+    let told = asked_work g.A.Source c.args.words.now c.args.config.now c.in-Some.command (sym c.in-Some.is ∙ c.command_of.ensures) none.0 c.in-Ok-Answer.field-0 (Answer c.in-Ok-Answer.service) c.in-Ok-Answer.field-0-is c.in-Ok-Answer.ensures.told in
+    absurd (no_work (job_of (command_of c.args.words.now) (g.A.Source.left c.args.config.now)) (job_with (Answer c.in-Ok-Answer.service)) told none.1)
+
+pub returns-in-Ok-Make-clause-nothing_done : goal.returns-in-Ok-Make-clause-nothing_done
+returns-in-Ok-Make-clause-nothing_done g c none =
+    let told = asked_work g.A.Source c.args.words.now c.args.config.now c.in-Some.command (sym c.in-Some.is ∙ c.command_of.ensures) none.0 c.in-Ok-Make.field-0 (Make c.in-Ok-Make.files) c.in-Ok-Make.field-0-is c.in-Ok-Make.ensures.told in
+    absurd (no_work (job_of (command_of c.args.words.now) (g.A.Source.left c.args.config.now)) (job_with (Make c.in-Ok-Make.files)) told none.1)
+
+pub returns-in-Ok-Run-clause-nothing_done : goal.returns-in-Ok-Run-clause-nothing_done
+returns-in-Ok-Run-clause-nothing_done g c none =
+    let told = asked_work g.A.Source c.args.words.now c.args.config.now c.in-Some.command (sym c.in-Some.is ∙ c.command_of.ensures) none.0 c.in-Ok-Run.field-0 (Run c.in-Ok-Run.registry) c.in-Ok-Run.field-0-is c.in-Ok-Run.ensures.told in
+    absurd (no_work (job_of (command_of c.args.words.now) (g.A.Source.left c.args.config.now)) (job_with (Run c.in-Ok-Run.registry)) told none.1)

@@ -24,7 +24,7 @@ pub returns-clause-ups : goal.returns-clause-ups
 returns-clause-ups g c =
     ups_of g.S.Source g.W.Sink g.D.Disk g.N.Wire (moment_shown g.C.Clock c.args.clock.now) c.args.registry c.args.script.now c.args.disk.now c.args.wire.now c.in_ok-cluster.cluster c.open.new.disk
     (moment c.do_lines.new.cluster c.do_lines.new.disk c.do_lines.new.wire) c.args.out.now c.do_lines.new.out (ended c.do_lines.result)
-    c.in_ok-cluster.ensures.registry c.in_ok-cluster.ensures.new c.in_ok-cluster.ensures.ready (λ tells. c.in_ok-cluster.ensures.opens tells) c.in_ok-cluster.ensures.later c.in_ok-cluster.ensures.keeps c.do_lines.ensures.later.1
+    c.in_ok-cluster.ensures.registry c.in_ok-cluster.ensures.new c.in_ok-cluster.ensures.ready (λ tells. c.in_ok-cluster.ensures.opens tells) (λ tells. c.in_ok-cluster.ensures.knows tells) c.in_ok-cluster.ensures.service c.in_ok-cluster.ensures.cells c.in_ok-cluster.ensures.later c.in_ok-cluster.ensures.keeps c.do_lines.ensures.later.1
     (undamaged g.S.Source g.W.Sink g.D.Disk c.open.new.disk c.do_lines.new.disk c.args.script.now c.do_lines.new.script c.args.out.now c.do_lines.new.out c.do_lines.result c.do_lines.ensures.cause) c.do_lines.ensures.does
 
 pub returns-clause-cause : goal.returns-clause-cause

@@ -7,7 +7,7 @@ use Rattle.claim_service.specs.declared.limits.TheConstants.{SERVICE_FILE}
 use Rattle.claim_service.specs.declared.node.TopologyNode.{TopologyNode}
 use Rattle.entry_codec.proofs.Entries.{service_one}
 use Rattle.cells_world.specs.Opening.{FailsTwice, IsServiceEnd}
-use Rattle.cells_world.proofs.Keeping.{same_state, service_moves, service_twice as moves_twice, stands_on, trimmed_keeps}
+use Rattle.cells_world.proofs.Keeping.{knows_on, same_state, service_moves, service_twice as moves_twice, stands_on, trimmed_keeps}
 use Rattle.cells_world.proofs.Openings.{failed_once, failed_then, service_end, service_once, service_twice}
 use Rattle.cells_world.proofs.opening.open_service.Goals as goal
 
@@ -15,6 +15,11 @@ use Rattle.cells_world.proofs.opening.open_service.Goals as goal
 pub returns-in-Ok-clause-stands : goal.returns-in-Ok-clause-stands
 returns-in-Ok-clause-stands g c = λ tells s stands.
     same_state service service_one (g.D.Disk.seen c.args.disk.now) SERVICE_FILE (kept c.in-Ok.node.state) s (c.in-Ok.ensures.stands tells) stands
+
+pub returns-in-Ok-clause-knows : goal.returns-in-Ok-clause-knows
+returns-in-Ok-clause-knows g c = λ tells.
+    knows_on c.args.registry.now (g.D.Disk.seen c.args.disk.now) (g.D.Disk.seen c.open.new.disk)
+    (trimmed_keeps SERVICE_FILE (g.D.Disk.seen c.args.disk.now) (g.D.Disk.seen c.open.new.disk) (c.open.ensures.reads tells)) (c.in-Ok.ensures.knows tells)
 
 pub returns-in-Ok-clause-keeps : goal.returns-in-Ok-clause-keeps
 returns-in-Ok-clause-keeps g c = service_moves g.D.Disk c.args.disk.now c.open.new.disk c.open.ensures.any_moment
@@ -24,6 +29,7 @@ pub returns-then-not-service_failed : goal.returns-then-not-service_failed
 returns-then-not-service_failed g c = record {
   serving = tt;
   stands = tt;
+  knows = λ tells. tt;
   end = subst (λ e. IsServiceEnd {T = TopologyNode} g.D.Disk c.args.registry.now c.args.disk.now c.open.new.disk (Err e)) (sym c.fault_of_service.ensures)
       (service_end g.D.Disk c.args.registry.now c.args.disk.now c.args.disk.now c.open.new.disk (λ tells. c.open.ensures.reads tells) c.in-Err.fault (λ tells. c.in-Err.ensures.refused tells) (λ still. refl) (λ is. c.open.ensures.failed (c.in-Err.is ∙ ap Err is)));
   twice = subst (λ e. FailsTwice g.D.Disk c.args.disk.now c.open.new.disk e) (sym c.fault_of_service.ensures)
@@ -37,6 +43,11 @@ pub returns-in-Ok-open-clause-stands : goal.returns-in-Ok-open-clause-stands
 returns-in-Ok-open-clause-stands g c = λ tells s stands.
     same_state service service_one (g.D.Disk.seen c.open.new.disk) SERVICE_FILE (kept c.in-Ok-open.node.state) s (c.in-Ok-open.ensures.stands tells)
     (stands_on service (g.D.Disk.seen c.args.disk.now) (g.D.Disk.seen c.open.new.disk) SERVICE_FILE s (trimmed_keeps SERVICE_FILE (g.D.Disk.seen c.args.disk.now) (g.D.Disk.seen c.open.new.disk) (c.open.ensures.reads tells)) stands)
+
+pub returns-in-Ok-open-clause-knows : goal.returns-in-Ok-open-clause-knows
+returns-in-Ok-open-clause-knows g c = λ tells.
+    knows_on c.args.registry.now (g.D.Disk.seen c.open.new.disk) (g.D.Disk.seen c.open-2.new.disk)
+    (trimmed_keeps SERVICE_FILE (g.D.Disk.seen c.open.new.disk) (g.D.Disk.seen c.open-2.new.disk) (c.open-2.ensures.reads tells)) (c.in-Ok-open.ensures.knows tells)
 
 pub returns-in-Ok-open-clause-keeps : goal.returns-in-Ok-open-clause-keeps
 returns-in-Ok-open-clause-keeps g c = moves_twice g.D.Disk g.met.D.Disk.counts_now c.args.disk.now c.open.new.disk c.open-2.new.disk

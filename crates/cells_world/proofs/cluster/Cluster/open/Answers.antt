@@ -7,7 +7,7 @@ use Rattle.claim_service.proofs.Configured.{legal_cells}
 use Rattle.claim_laws.specs.Nodes.{Agent}
 use Rattle.cells_world.specs.Opening.{AreApart, AreOf, AreToEndFrom, IsIdOf, IsNew, IsOneEnd, IsStoreAsBefore, Moves, StaysBeside}
 use Rattle.cells_world.specs.declared.cluster.Cluster.{Cluster}
-use Rattle.cells_world.proofs.Clusters.{cells_end, keeps_on, opened_all, ready_all, service_end_is}
+use Rattle.cells_world.proofs.Clusters.{cells_end, keeps_on, knows_then, opened_all, ready_all, service_end_is}
 use Rattle.cells_world.proofs.Configured.{agents_of, apart_of}
 use Rattle.cells_world.proofs.Keeping.{moves_still}
 use Rattle.cells_world.proofs.Openings.{twice_earlier}
@@ -89,6 +89,19 @@ returns-clause-opens g c = λ tells start w order configured is_of. (
     (opened_all g.D.Disk c.args.registry c.cells-configured.ensures.legal c.args.disk.now c.open_service.new.disk c.open_agents.new.disk c.open_service.ensures.others
     c.in_ok-cells.cells.items are_of c.in_ok-cells.ensures.new c.in_ok-cells.ensures.opened)
     w configured is_of)
+
+-- the agents keep what a read gave
+pub returns-clause-cells : goal.returns-clause-cells
+returns-clause-cells g c =
+    opened_all g.D.Disk c.args.registry c.cells-configured.ensures.legal c.args.disk.now c.open_service.new.disk c.open_agents.new.disk c.open_service.ensures.others
+    c.in_ok-cells.cells.items (subst (λ l. AreOf l c.in_ok-cells.cells.items) c.cells-configured.ensures.value c.in_ok-cells.ensures.cells) c.in_ok-cells.ensures.new c.in_ok-cells.ensures.opened
+
+-- the configuration has each cell that the service's file names
+pub returns-clause-knows : goal.returns-clause-knows
+returns-clause-knows g c = λ tells.
+    knows_then g.D.Disk c.args.registry c.cells-configured.ensures.legal c.args.disk.now c.open_service.new.disk c.open_agents.new.disk c.open_service.ensures.others tells
+    (subst (λ l. StaysBeside g.D.Disk l c.open_service.new.disk c.open_agents.new.disk) c.cells-configured.ensures.value c.open_agents.ensures.others)
+    (c.in_ok-service.ensures.knows tells)
 
 pub returns-in_err-cells-clause-twice : goal.returns-in_err-cells-clause-twice
 returns-in_err-cells-clause-twice g c =

@@ -112,7 +112,7 @@ returns-in-Err-clause-up g c a registry asked =
 
 -- where there is work, the words and the configuration give it
 no_work : (job : Result Job Status) (it : Job) → job ≡ Ok it → IsErr job → ⊥
-no_work job it told refused = let none : IsErr {T = Job} {E = Status} (Ok it) = subst (λ (r : Result Job Status). IsErr r) told refused in absurd none
+no_work job it told refused = let none : IsErr {T = Job} {E = Status} (Ok it) = subst (λ (r : Result Job Status). IsErr r) told refused in absurd cc
 
 pub returns-in-Ok-Answer-clause-nothing_done : goal.returns-in-Ok-Answer-clause-nothing_done
 returns-in-Ok-Answer-clause-nothing_done g c none =

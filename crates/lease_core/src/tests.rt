@@ -75,13 +75,42 @@ const GIVEN: [Range; 1] = [Range {
     high: 100,
 }];
 
-// Lease 1 committed `held`, lease 2 was rolled back, and lease 3 is open on `leased`.
+// Begins a lease that creates this route for this row.
+fn begin(
+    alloc: Global,
+    leases: &mut Leases,
+    attempt: u64,
+    route: &[u8],
+    row: u64,
+) -> Result<(), Fail> {
+    let operations = creating(alloc, route, row)?;
+    leases.begin(&GIVEN, lease(attempt), operations)?;
+    Ok(())
+}
+
+// Begins such a lease, and commits it.
+fn claim(
+    alloc: Global,
+    leases: &mut Leases,
+    attempt: u64,
+    route: &[u8],
+    row: u64,
+) -> Result<(), Fail> {
+    begin(alloc, leases, attempt, route, row)?;
+    leases.commit(lease(attempt))?;
+    Ok(())
+}
+
+// Lease 1 commits `held`, lease 2 is rolled back, and lease 3 is opened on `leased`.
+fn begin_some(alloc: Global, leases: &mut Leases) -> Result<(), Fail> {
+    claim(alloc, leases, 1, b"held", 5)?;
+    leases.rollback(lease(2))?;
+    begin(alloc, leases, 3, b"leased", 6)
+}
+
 fn some_leases(alloc: Global) -> Result<Leases, Fail> {
     let mut leases = Leases::new(alloc);
-    leases.begin(&GIVEN, lease(1), creating(alloc, b"held", 5)?)?;
-    leases.commit(lease(1))?;
-    leases.rollback(lease(2))?;
-    leases.begin(&GIVEN, lease(3), creating(alloc, b"leased", 6)?)?;
+    begin_some(alloc, &mut leases)?;
     Ok(leases)
 }
 
@@ -103,18 +132,27 @@ fn rollback(leases: &mut Leases, attempt: u64) -> Result<bool, RollbackFault> {
     leases.rollback(lease(attempt))
 }
 
+// The lease is settled, or open on the same operations or on others.
+fn looks_at_leases_first(alloc: Global, leases: &Leases) -> Result<bool, NoMemory> {
+    let committed = Refusal::Settled {
+        how: How::Committed,
+    };
+    let rolled_back = Refusal::Settled {
+        how: How::RolledBack,
+    };
+    Ok(
+        refuses(leases, 1, creating(alloc, b"leased", 6)?, committed)
+            && refuses(leases, 2, no_operations(alloc), rolled_back)
+            && judges(leases, 3, creating(alloc, b"leased", 6)?, Verdict::Again)
+            && refuses(leases, 3, no_operations(alloc), Refusal::OtherOperations),
+    )
+}
+
 #[test]
 fn looks_at_the_lease_before_its_operations(rt: HostRuntime) -> Result<(), Fail> {
     let alloc = rt.alloc();
     let leases = some_leases(alloc)?;
-    let how = How::Committed;
-    let same = creating(alloc, b"leased", 6)?;
-    assert!(rt; refuses(&leases, 1, same, Refusal::Settled { how }));
-    let how = How::RolledBack;
-    assert!(rt; refuses(&leases, 2, no_operations(alloc), Refusal::Settled { how }));
-    let same = creating(alloc, b"leased", 6)?;
-    assert!(rt; judges(&leases, 3, same, Verdict::Again));
-    assert!(rt; refuses(&leases, 3, no_operations(alloc), Refusal::OtherOperations));
+    assert!(rt; looks_at_leases_first(alloc, &leases)?);
     Ok(())
 }
 
@@ -125,114 +163,156 @@ fn creating_twice(alloc: Global) -> Result<Operations, NoMemory> {
     Ok(operations)
 }
 
+fn looks_at_operations_next(alloc: Global, leases: &Leases) -> Result<bool, NoMemory> {
+    let none = Refusal::NoneOrTooMany { n: 0 };
+    let too_many = Refusal::NoneOrTooMany { n: 65 };
+    let twice = Refusal::Twice { index: 1 };
+    let foreign = Refusal::ForeignId { id: 101 };
+    Ok(
+        refuses(leases, 4, no_operations(alloc), none)
+            && refuses(leases, 4, many(alloc, 65)?, too_many)
+            && refuses(leases, 4, creating_twice(alloc)?, twice)
+            && refuses(leases, 4, creating(alloc, b"held", 101)?, foreign)
+            && judges(leases, 4, many(alloc, 64)?, Verdict::Fresh),
+    )
+}
+
 #[test]
 fn refuses_operations_before_it_looks_at_keys(rt: HostRuntime) -> Result<(), Fail> {
     let alloc = rt.alloc();
     let leases = some_leases(alloc)?;
-    let none = Refusal::NoneOrTooMany { n: 0 };
-    assert!(rt; refuses(&leases, 4, no_operations(alloc), none));
-    let too_many = Refusal::NoneOrTooMany { n: 65 };
-    assert!(rt; refuses(&leases, 4, many(alloc, 65)?, too_many));
-    let twice = Refusal::Twice { index: 1 };
-    assert!(rt; refuses(&leases, 4, creating_twice(alloc)?, twice));
-    let foreign = Refusal::ForeignId { id: 101 };
-    assert!(rt; refuses(&leases, 4, creating(alloc, b"held", 101)?, foreign));
-    assert!(rt; judges(&leases, 4, many(alloc, 64)?, Verdict::Fresh));
+    assert!(rt; looks_at_operations_next(alloc, &leases)?);
     Ok(())
+}
+
+fn looks_at_keys_last(alloc: Global, leases: &Leases) -> Result<bool, NoMemory> {
+    let owned = Refusal::Owned { index: 0, cell: 1 };
+    let leased = Refusal::Leased {
+        index: 0,
+        lease: lease(3),
+    };
+    let not_owned = Refusal::NotOwned { index: 0 };
+    Ok(
+        refuses(leases, 4, creating(alloc, b"held", 1)?, owned)
+            && refuses(leases, 4, creating(alloc, b"leased", 1)?, leased)
+            && refuses(leases, 4, destroying(alloc, b"free")?, not_owned),
+    )
 }
 
 #[test]
 fn refuses_keys_in_other_hands(rt: HostRuntime) -> Result<(), Fail> {
     let alloc = rt.alloc();
     let leases = some_leases(alloc)?;
-    let owned = Refusal::Owned { index: 0, cell: 1 };
-    assert!(rt; refuses(&leases, 4, creating(alloc, b"held", 1)?, owned));
-    let by = lease(3);
-    let leased = Refusal::Leased {
-        index: 0,
-        lease: by,
-    };
-    assert!(rt; refuses(&leases, 4, creating(alloc, b"leased", 1)?, leased));
-    let not_owned = Refusal::NotOwned { index: 0 };
-    assert!(rt; refuses(&leases, 4, destroying(alloc, b"free")?, not_owned));
+    assert!(rt; looks_at_keys_last(alloc, &leases)?);
     Ok(())
+}
+
+// Opens as many leases as a cell may have open.
+fn open_all(alloc: Global, leases: &mut Leases) -> Result<(), Fail> {
+    for n in 0..OPEN_LEASES {
+        begin(alloc, leases, n, &n.to_be_bytes(), 1)?;
+    }
+    Ok(())
+}
+
+fn has_no_room(alloc: Global, leases: &Leases) -> Result<bool, NoMemory> {
+    let operations = creating(alloc, b"one more", 1)?;
+    Ok(
+        leases.open_number() == 4_096
+            && refuses(leases, OPEN_LEASES, operations, Refusal::TooManyOpen),
+    )
 }
 
 #[test]
 fn opens_only_so_many(rt: HostRuntime) -> Result<(), Fail> {
     let alloc = rt.alloc();
     let mut leases = Leases::new(alloc);
-    for n in 0..OPEN_LEASES {
-        leases.begin(&GIVEN, lease(n), creating(alloc, &n.to_be_bytes(), 1)?)?;
-    }
-    assert!(rt; leases.open_number() == 4_096);
-    let operations = creating(alloc, b"one more", 1)?;
-    assert!(rt; refuses(&leases, OPEN_LEASES, operations, Refusal::TooManyOpen));
+    open_all(alloc, &mut leases)?;
+    assert!(rt; has_no_room(alloc, &leases)?);
     Ok(())
+}
+
+// The row that this route comes from, if it is held.
+fn row_of(alloc: Global, leases: &Leases, route: &[u8]) -> Result<Option<u64>, NoMemory> {
+    let holder = leases.holder(&key(alloc, route)?);
+    Ok(holder.map(|holding| holding.origin.row))
+}
+
+fn is_committed_once(leases: &mut Leases) -> bool {
+    commit(leases, 3) == Ok(true)
+        && commit(leases, 3) == Ok(false)
+        && rollback(leases, 3) == Err(RollbackFault::WasCommitted)
 }
 
 #[test]
 fn commits_a_lease_once(rt: HostRuntime) -> Result<(), Fail> {
     let alloc = rt.alloc();
     let mut leases = some_leases(alloc)?;
-    assert_eq!(rt; commit(&mut leases, 3), Ok(true));
-    assert_eq!(rt; commit(&mut leases, 3), Ok(false));
-    assert_eq!(rt; rollback(&mut leases, 3), Err(RollbackFault::WasCommitted));
-    let holder = leases.holder(&key(alloc, b"leased")?);
-    assert_eq!(rt; holder.map(|holding| holding.origin.row), Some(6));
+    assert!(rt; is_committed_once(&mut leases));
+    assert!(rt; row_of(alloc, &leases, b"leased")? == Some(6));
     Ok(())
+}
+
+fn is_rolled_back_once(leases: &mut Leases) -> bool {
+    commit(leases, 9) == Err(CommitFault::Unknown)
+        && rollback(leases, 9) == Ok(true)
+        && rollback(leases, 9) == Ok(false)
+        && commit(leases, 9) == Err(CommitFault::WasRolledBack)
 }
 
 #[test]
 fn rolls_back_a_lease_that_was_never_begun(rt: HostRuntime) -> Result<(), Fail> {
     let mut leases = some_leases(rt.alloc())?;
-    assert_eq!(rt; commit(&mut leases, 9), Err(CommitFault::Unknown));
-    assert_eq!(rt; rollback(&mut leases, 9), Ok(true));
-    assert_eq!(rt; rollback(&mut leases, 9), Ok(false));
-    assert_eq!(rt; commit(&mut leases, 9), Err(CommitFault::WasRolledBack));
+    assert!(rt; is_rolled_back_once(&mut leases));
     Ok(())
+}
+
+// The one open lease behind this attempt, if there is one and no other.
+fn opened_behind(
+    alloc: Global,
+    leases: &Leases,
+    attempt: u64,
+) -> Result<Option<LeaseId>, NoMemory> {
+    let page = leases.list(alloc, 1, Some(lease(attempt)))?;
+    match page.leases.as_slice() {
+        [one] => Ok(Some(*one)),
+        _ => Ok(None),
+    }
+}
+
+// How many claims of rows up to the greatest a page behind this row lists, and whether there are more.
+fn listed(
+    alloc: Global,
+    leases: &Leases,
+    greatest: u64,
+    after: u64,
+) -> Result<(usize, bool), NoMemory> {
+    let page = leases.claims_in(alloc, 1, Bucket::Route, 1, greatest, after)?;
+    Ok((page.items.len(), page.more))
+}
+
+// Lease 4 opens on `other`, and then both open leases are committed.
+fn lists_both(alloc: Global, leases: &mut Leases) -> Result<bool, Fail> {
+    begin(alloc, leases, 4, b"other", 4)?;
+    let opened = opened_behind(alloc, leases, 3)?;
+    leases.commit(lease(3))?;
+    leases.commit(lease(4))?;
+    let page = listed(alloc, leases, 6, 4)?;
+    Ok(opened == Some(lease(4)) && page == (2, false))
 }
 
 #[test]
 fn lists_what_is_open_and_held(rt: HostRuntime) -> Result<(), Fail> {
     let alloc = rt.alloc();
     let mut leases = some_leases(alloc)?;
-    leases.begin(&GIVEN, lease(4), creating(alloc, b"other", 4)?)?;
-    let page = leases.list(alloc, 1, Some(lease(3)))?;
-    assert_eq!(rt; page.leases.as_slice(), [lease(4)].as_slice());
-    leases.commit(lease(3))?;
-    leases.commit(lease(4))?;
-    let page = leases.claims_in(alloc, 1, Bucket::Route, 1, 6, 4)?;
-    assert_eq!(rt; page.items.len(), 2);
-    assert!(rt; !page.more);
-    let held = leases.holder_of(Bucket::Route, b"other");
-    assert_eq!(rt; held.map(|holding| holding.origin.row), Some(4));
+    assert!(rt; lists_both(alloc, &mut leases)?);
     Ok(())
 }
 
-#[test]
-fn is_made_of_its_parts(rt: HostRuntime) -> Result<(), Fail> {
-    let alloc = rt.alloc();
-    let parts = some_leases(alloc)?.parts(alloc)?;
-    assert_eq!(rt; parts.held.len(), 1);
-    assert_eq!(rt; parts.done.len(), 2);
-    assert_eq!(rt; parts.begun.len(), 1);
-    let holding = Holding {
-        cell: 1,
-        subject: Subject {
-            kind: Kind::Group,
-            id: 5,
-        },
-        origin: Origin {
-            table: Kind::Group,
-            row: 5,
-        },
-    };
-    let mut leases = Leases::new(alloc);
-    assert_eq!(rt; leases.hold(key(alloc, b"held")?, holding), Ok(true));
-    assert_eq!(rt; leases.settle(lease(1), How::Committed), Ok(true));
-    assert_eq!(rt; leases.settle(lease(1), How::RolledBack), Ok(false));
-    Ok(())
+// How many keys are held, leases settled and leases open, by the parts.
+fn parts_of(alloc: Global, leases: &Leases) -> Result<(usize, usize, usize), NoMemory> {
+    let parts = leases.parts(alloc)?;
+    Ok((parts.held.len(), parts.done.len(), parts.begun.len()))
 }
 
 fn group(row: u64) -> Holding {
@@ -249,6 +329,42 @@ fn group(row: u64) -> Holding {
     }
 }
 
+// Has this route held by this row, where it is free.
+fn hold(alloc: Global, leases: &mut Leases, route: &[u8], row: u64) -> Result<bool, NoMemory>
+    requires { leases.old.open_leases ≡ map.empty }
+    ensures { leases.new.open_leases ≡ map.empty }
+{
+    let held = key(alloc, route)?;
+    leases.hold(held, group(row))
+}
+
+// A key is held and a lease is settled, as they were.
+fn takes_parts(alloc: Global, leases: &mut Leases) -> Result<bool, NoMemory>
+    requires { leases.old.open_leases ≡ map.empty }
+{
+    Ok(
+        hold(alloc, leases, b"held", 5)?
+            && leases.settle(lease(1), How::Committed)?
+            && !leases.settle(lease(1), How::RolledBack)?,
+    )
+}
+
+#[test]
+fn is_made_of_its_parts(rt: HostRuntime) -> Result<(), Fail> {
+    let alloc = rt.alloc();
+    let leases = some_leases(alloc)?;
+    assert!(rt; parts_of(alloc, &leases)? == (1, 2, 1));
+    Ok(())
+}
+
+#[test]
+fn is_made_from_parts(rt: HostRuntime) -> Result<(), Fail> {
+    let alloc = rt.alloc();
+    let mut leases = Leases::new(alloc);
+    assert!(rt; takes_parts(alloc, &mut leases)?);
+    Ok(())
+}
+
 // The route of `r` and six digits.
 fn numbered(alloc: Global, n: u64) -> Result<String, NoMemory> {
     Ok(format!(in alloc; "r{n:06}")?)
@@ -260,7 +376,7 @@ fn hold_numbered(alloc: Global, leases: &mut Leases, n: u64) -> Result<(), NoMem
     ensures { leases.new.open_leases ≡ map.empty }
 {
     let route = numbered(alloc, n)?;
-    leases.hold(key(alloc, route.as_bytes())?, group(n))?;
+    hold(alloc, leases, route.as_bytes(), n)?;
     Ok(())
 }
 
@@ -273,20 +389,18 @@ fn holding(alloc: Global, number: u64) -> Result<Leases, NoMemory> {
     Ok(leases)
 }
 
-// How many claims a page behind this row lists, and whether there are more.
-fn listed(alloc: Global, leases: &Leases, after: u64) -> Result<(usize, bool), NoMemory> {
-    let page = leases.claims_in(alloc, 1, Bucket::Route, 1, GREATEST_IDENTIFIER, after)?;
-    Ok((page.items.len(), page.more))
+fn lists_two_pages(alloc: Global, leases: &Leases) -> Result<bool, NoMemory> {
+    Ok(
+        listed(alloc, leases, GREATEST_IDENTIFIER, 0)? == (64, true)
+            && listed(alloc, leases, GREATEST_IDENTIFIER, 64)? == (1, false),
+    )
 }
 
 #[test]
 fn lists_a_page_and_then_the_rest(rt: HostRuntime) -> Result<(), Fail> {
     let alloc = rt.alloc();
     let leases = holding(alloc, 65)?;
-    let (first, goes_on) = listed(alloc, &leases, 0)?;
-    assert!(rt; first == 64 && goes_on);
-    let (rest, goes_on) = listed(alloc, &leases, 64)?;
-    assert!(rt; rest == 1 && !goes_on);
+    assert!(rt; lists_two_pages(alloc, &leases)?);
     Ok(())
 }
 
@@ -296,12 +410,20 @@ fn is_held(alloc: Global, leases: &Leases, n: u64) -> Result<bool, NoMemory> {
     Ok(leases.holder_of(Bucket::Route, route.as_bytes()) == Some(group(n)))
 }
 
+// Whether so is each route from 1 to this number.
+fn are_held(alloc: Global, leases: &Leases, number: u64) -> Result<bool, NoMemory> {
+    for n in 0..number {
+        if !is_held(alloc, leases, n + 1)? {
+            return Ok(false);
+        }
+    }
+    Ok(true)
+}
+
 #[test]
 fn finds_each_of_many_routes(rt: HostRuntime) -> Result<(), Fail> {
     let alloc = rt.alloc();
     let leases = holding(alloc, 200_000)?;
-    for n in 0..200_000 {
-        assert!(rt; is_held(alloc, &leases, n + 1)?);
-    }
+    assert!(rt; are_held(alloc, &leases, 200_000)?);
     Ok(())
 }
